@@ -1,3 +1,4 @@
 pub mod Named
 pub mod Spelled
 pub mod ReadAgain
+pub mod OwnNames

@@ -7,12 +7,12 @@ ghost use Rattle.moxi_trace.specs.Answer.{Answers};
 ghost use Rattle.moxi_trace.specs.Responses.{IsStatedResponse, ReadsResponse, response_of};
 ghost use Rattle.moxi_trace.specs.Texts.{response_text};
 ghost use Rattle.moxi_trace.specs.Traces.{is_within, most_bytes};
-ghost use Rattle.moxi_responses.specs.Declaring.{declared_of};
+ghost use Rattle.moxi_responses.specs.Declaring.{ReadsAgain, declared_of};
 
-use crate::declared::{checked_name, names_of};
+use crate::declared::{declarations_of, names_are_own, names_of};
 use moxi_instantiate::FlatSystem;
 use moxi_scripts::{MoxiTrace, Script};
-use moxi_trace::{Answered, Declarations, ResponseEnd};
+use moxi_trace::{Answered, ResponseEnd};
 use std::alloc::Global;
 use text_core::{NoMemory, Text};
 
@@ -30,15 +30,14 @@ pub fn print_response(
     requires system { system.now ≡ flat_of (plain_script script.now) }
     requires query { q < length script.now.check.queries }
     requires trace { IsStatedTrace system.now trace.now }
+    // What is printed.
     ensures text { IfOk result (λ text. text ≡ response_text (declared_of (plain_script script.now)) q trace.now) }
+    // It reads back to the same query and trace, within the limits of the reader.
+    ensures again { IfOk result (ReadsAgain (declared_of (plain_script script.now)) q trace.now) }
 {
     let queries = names_of(alloc, &script.check.queries)?;
-    let declarations = Declarations {
-        system: checked_name(script),
-        scope: system.scope(),
-        variables: system.variables(),
-        queries: &queries,
-    };
+    let declarations = declarations_of(script, system, &queries);
+    names_are_own(script, system);
     moxi_trace::print_response(alloc, &declarations, q, trace)
 }
 
@@ -56,11 +55,7 @@ pub fn read_response(
     ensures stated { IfOk result (IsStatedResponse (declared_of (plain_script script.now))) }
 {
     let queries = names_of(alloc, &script.check.queries)?;
-    let declarations = Declarations {
-        system: checked_name(script),
-        scope: system.scope(),
-        variables: system.variables(),
-        queries: &queries,
-    };
+    let declarations = declarations_of(script, system, &queries);
+    names_are_own(script, system);
     moxi_trace::read_response(alloc, &declarations, text)
 }

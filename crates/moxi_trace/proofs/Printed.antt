@@ -1,5 +1,5 @@
 -- What is printed is read back.
-use Rattle.std.proofs.Common.{◌≡◌, ℕ, ◌+◌, ◌≤◌, ◌<◌, true, Option, List, [], ◌∷◌, ◌++◌, length, Ok, refl, sym, ap, ◌∙◌, subst, arith}
+use Rattle.std.proofs.Common.{◌≡◌, ℕ, ◌+◌, ◌≤◌, ◌<◌, true, Option, List, [], ◌∷◌, ◌++◌, length, Result, Ok, Err, IfOk, refl, sym, ap, ◌∙◌, subst, arith}
 use Rattle.std.specs.Prelude.{codes, nat_le}
 use Rattle.std.specs.Str.{bytes_eq}
 use Rattle.std.proofs.lemmas.Bool.{cond-true, le-leb}
@@ -11,7 +11,7 @@ use Rattle.moxi_trace.specs.declared.point.Point.TheVariants as point
 use Rattle.moxi_trace.specs.declared.tokens.Shape.TheVariants as shape
 use Rattle.moxi_trace.specs.Traces.{Declared, IsStatedTrace, is_within, most_bytes}
 use Rattle.moxi_trace.specs.Texts.{symbol_text, name_at, steps_text, words_of_response, words_of_query, words_of_result, words_of_trace, head_text, response_text}
-use Rattle.moxi_trace.specs.ReadBack.{CanBeReadBack}
+use Rattle.moxi_trace.specs.ReadBack.{CanBeReadBack, ReadsBack}
 use Rattle.moxi_trace.specs.Reading.{go_on, at_point, with_failing, query_named, nothing_stated, ended, finished, begin}
 use Rattle.moxi_trace.specs.Responses.{read_from, answered, ReadsResponse}
 use Rattle.moxi_trace.proofs.Spelled.{blank_parts}
@@ -101,3 +101,8 @@ steps_read d can q (x ∷ xs) h t w =
 pub printed_is_read : (d : Declared) (q : ℕ) (steps : List (List Datum)) → CanBeReadBack d → q < length d.queries → IsStatedTrace d steps → is_within d (length steps) ≡ true → length (response_text d q steps) ≤ most_bytes
     → ReadsResponse d (response_text d q steps) (record { query = q; trace = steps })
 printed_is_read d q steps can h t w few = cond-true (nat_le (length (response_text d q steps)) most_bytes) _ _ (le-leb (length (response_text d q steps)) most_bytes few) ∙ steps_read d can q steps h t w
+
+-- the same of what the printer answers
+pub printed_again : {E : Type 0} (d : Declared) (q : ℕ) (steps : List (List Datum)) (r : Result (List ℕ) E) → IfOk r (λ text. text ≡ response_text d q steps) → IfOk r (ReadsBack d q steps)
+printed_again d q steps (Ok text) h = subst (λ (text : List ℕ). ReadsBack d q steps text) (sym h) (printed_is_read d q steps)
+printed_again d q steps (Err e) h = tt

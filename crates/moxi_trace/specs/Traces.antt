@@ -1,6 +1,7 @@
 -- What a response is read against, and which traces it can state (MoXI, SPIN 2024).
-use Rattle.std.specs.Prelude.{◌≤◌, ◌*◌, ℕ, Bool, ◌&&◌, nat_le, List, length, map}
+use Rattle.std.specs.Prelude.{◌≡◌, ◌≤◌, ◌*◌, ◌^◌, ℕ, Bool, true, ◌&&◌, nat_le, List, [], length, map}
 use Rattle.std.specs.List.{AllByRecursion}
+use Rattle.name_maps.specs.Names.{are_fresh}
 use Rattle.moxi_terms.specs.declared.data.Datum.{Datum}
 use Rattle.moxi_terms.specs.declared.term.Enumeration.{Enumeration}
 use Rattle.moxi_terms.specs.declared.term.Variable.{Variable}
@@ -16,6 +17,12 @@ pub record Declared : Type 0 where
 
 abbrev pub names_of : List Variable → List (List ℕ)
 names_of vs = map (λ (v : Variable). v.name) vs
+
+-- each variable and each query has a name of its own, and 32 bits number the queries
+pub record HasOwnNames (d : Declared) : Type 0 where
+  pub variables : are_fresh [] (names_of d.variables) ≡ true
+  pub queries : are_fresh [] d.queries ≡ true
+  pub few : length d.queries ≤ 2 ^ 32
 
 -- one or more steps, each with a value of its sort for each variable
 pub record IsStatedTrace (d : Declared) (steps : List (List Datum)) : Type 0 where

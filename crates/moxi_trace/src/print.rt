@@ -1,6 +1,7 @@
 // The printer of responses.
 ghost use Rattle.std.specs.Prelude.{◌≡◌, ◌++◌, ◌<◌, ◌^◌, codes, length, map, OnOk, IfOk};
 ghost use Rattle.text_core.specs.Binary.{binary_digits};
+ghost use Rattle.moxi_trace.specs.ReadBack.{ReadsBack};
 ghost use Rattle.moxi_trace.specs.Texts.{symbol_text, name_at, constants_of, constant_name, truth_text, value_text, front_text, fronted_text, step_text, steps_text, words_of_response, words_of_query, words_of_result, words_of_trace, head_text, response_text};
 
 use crate::declarations::Declarations;
@@ -188,11 +189,8 @@ fn put_head(out: &mut Text, system: &[u8], query: &[u8]) -> Result<(), NoMemory>
     put_words_of_trace(out)
 }
 
-/// Returns the text of a response, which states that a trace meets a query.
-///
-/// Each step has its own line, with its values in the order of the variables. Steps are counted from 0. A name is printed
-/// as a symbol, and a word as `#b` followed by as many digits as it is wide.
-pub fn print_response(
+// Returns the text of a response.
+fn response_text(
     alloc: Global,
     declarations: &Declarations,
     q: u32,
@@ -210,4 +208,22 @@ pub fn print_response(
     put_steps(&mut out, declarations, &fronts, steps)?;
     out.put(b"))\n")?;
     Ok(out)
+}
+
+/// Returns the text of a response, which states that a trace meets a query.
+///
+/// Each step has its own line, with its values in the order of the variables. Steps are counted from 0. A name is printed
+/// as a symbol, and a word as `#b` followed by as many digits as it is wide.
+pub fn print_response(
+    alloc: Global,
+    declarations: &Declarations,
+    q: u32,
+    steps: &Steps,
+) -> Result<Text, NoMemory>
+    // What is printed.
+    ensures text { IfOk result (λ text. text ≡ response_text declarations.now q steps.now) }
+    // It reads back to the same query and trace, where these can be stated, and within the limits of the reader.
+    ensures again { IfOk result (ReadsBack declarations.now q steps.now) }
+{
+    response_text(alloc, declarations, q, steps)
 }

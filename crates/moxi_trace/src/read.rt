@@ -2,6 +2,7 @@
 ghost use Rattle.std.specs.Prelude.{◌≡◌, ◌≤◌, ◌∷◌, ◌-◌, length, IfOk};
 ghost use Rattle.text_core.specs.Places.{start, next_place, Reaches};
 ghost use Rattle.moxi_trace.specs.Tokens.{token_of};
+ghost use Rattle.moxi_trace.specs.Traces.{HasOwnNames};
 ghost use Rattle.moxi_trace.specs.Reading.{begin};
 ghost use Rattle.moxi_trace.specs.Responses.{token_read, byte_read, read_from, response_of, answered, IsStatedResponse};
 ghost use Rattle.moxi_trace.specs.Answer.{Answers, Finishes, Passes};
@@ -100,7 +101,8 @@ fn read_text(
     declarations: &Declarations,
     text: &[u8],
 ) -> Result<Answered, ResponseEnd>
-    requires { length text.now ≤ MOST_BYTES }
+    requires names { HasOwnNames declarations.now }
+    requires few { length text.now ≤ MOST_BYTES }
     ensures { Answers (response_of declarations.now text.now) result }
 {
     let table = Table::of(alloc, declarations)?;
@@ -122,6 +124,7 @@ pub fn read_response(
     declarations: &Declarations,
     text: &[u8],
 ) -> Result<Answered, ResponseEnd>
+    requires { HasOwnNames declarations.now }
     // The response that the text states, or its first refusal.
     ensures exact { Answers (response_of declarations.now text.now) result }
     // The query exists, and the trace gives each variable a value of its sort, within the limits.

@@ -1,7 +1,7 @@
 // The declarations that a response is read against, with an index of names.
-ghost use Rattle.std.specs.Prelude.{◌≡◌, ◌<◌, ◌≤◌, ◌^◌, ◌+◌, ◌++◌, Some, None, map, length, IfOk, IfSome, option_and_then, slice_get};
-ghost use Rattle.name_maps.specs.Names.{place_of};
-ghost use Rattle.moxi_trace.specs.Traces.{names_of, is_within};
+ghost use Rattle.std.specs.Prelude.{◌≡◌, ◌<◌, ◌≤◌, ◌^◌, ◌+◌, ◌++◌, [], true, Some, None, map, length, IfOk, IfSome, option_and_then, slice_get};
+ghost use Rattle.name_maps.specs.Names.{are_fresh, place_of};
+ghost use Rattle.moxi_trace.specs.Traces.{HasOwnNames, names_of, is_within};
 ghost use Rattle.moxi_trace.specs.Values.{value_of};
 ghost use Rattle.moxi_trace.specs.Reading.{value_at};
 
@@ -40,13 +40,12 @@ impl<'a> Model for Table<'a> {
 
 // The names of the variables, which are distinct.
 fn variable_names(alloc: Global, variables: &Variables) -> Result<NameTable, NoMemory>
+    requires { are_fresh [] (names_of variables.now) ≡ true }
     ensures { IfOk result (λ names. names ≡ names_of variables.now) }
 {
     let mut names = NameTable::new(alloc);
     for variable in variables {
-        if !names.declare(alloc, variable.name.bytes())? {
-            return Err(NoMemory);
-        }
+        names.declare(alloc, variable.name.bytes())?;
     }
     Ok(names)
 }
@@ -56,15 +55,12 @@ impl<'a> Table<'a> {
     ///
     /// The names of the variables are distinct, and so are those of the queries.
     pub fn of(alloc: Global, declarations: &'a Declarations<'a>) -> Result<Table<'a>, NoMemory>
+        requires { HasOwnNames declarations.now }
         ensures { IfOk result (λ table. table ≡ declarations.now) }
     {
         let names = variable_names(alloc, declarations.variables)?;
         let mut queries = NameSet::new(alloc);
-        if declarations.queries.len() > u32::MAX as usize
-            || !queries.declare_all(alloc, declarations.queries)?
-        {
-            return Err(NoMemory);
-        }
+        queries.declare_all(alloc, declarations.queries)?;
         Ok(Table {
             declarations,
             names,

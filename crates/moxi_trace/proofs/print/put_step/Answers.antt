@@ -1,4 +1,4 @@
-use Rattle.std.proofs.Common.{◌≡◌, ◌++◌, ◌∷◌, [], OnOk, decimal, sym, ap, ◌∙◌, subst}
+use Rattle.std.proofs.Common.{◌≡◌, ◌++◌, OnOk, decimal, ap, ◌∙◌, subst}
 use Rattle.moxi_trace.specs.Texts.{statements_text}
 use Rattle.moxi_trace.proofs.Fronts.{fronted, step_put}
 use Rattle.moxi_trace.proofs.print.put_step.Goals as goal
