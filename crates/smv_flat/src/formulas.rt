@@ -1,5 +1,5 @@
 // The flat form of a model's formulas.
-ghost use Rattle.std.specs.Prelude.{◌≡◌, true, ◌+◌, ◌++◌, ◌∷◌, [], map, flat_map, OnOk, IfOk};
+ghost use Rattle.std.specs.Prelude.{◌≡◌, ◌<◌, true, ◌+◌, ◌^◌, ◌++◌, ◌∷◌, [], length, map, flat_map, OnOk, IfOk};
 ghost use Rattle.smv_text.specs.View.{plain_assignment, plain_element};
 ghost use Rattle.smv_meaning.specs.Phases.{in_assignment};
 ghost use Rattle.smv_instances.specs.View.{instance_plain};
@@ -129,15 +129,13 @@ fn add_bodies<'s, 'a, 'n, N: Naming>(
     own: &[Origin<'a>],
 ) -> Result<(), NoMemory>
     requires model { N.instances context.now.naming.now ≡ map instance_plain context.now.table.now }
+    requires room { first + length own.now < 2 ^ 64 }
     ensures { OnOk result (map form_plain forms.new.items ≡ map form_plain forms.old.items ++ body_forms (map instance_plain context.now.table.now) first (map origin_plain own.now)) }
 {
     let mut number = first;
     for origin in own {
         add_body(alloc, context, forms, number, origin)?;
-        let Some(next) = number.checked_add(1) else {
-            return Err(NoMemory);
-        };
-        number = next;
+        number += 1;
     }
     Ok(())
 }
@@ -253,6 +251,7 @@ fn add_instance<'s, 'a, 'n, N: Naming>(
 ) -> Result<(), NoMemory>
     requires model { N.instances context.now.naming.now ≡ map instance_plain context.now.table.now }
     requires own { map origin_plain own.now ≡ items_here i (instance_plain at.now) }
+    requires room { first + length own.now < 2 ^ 64 }
     ensures { OnOk result (map form_plain forms.new.items ≡ map form_plain forms.old.items ++ forms_here (map instance_plain context.now.table.now) first i (instance_plain at.now)) }
 {
     let module = at.module;

@@ -1,5 +1,5 @@
 use Rattle.smv_flat.proofs.OwnLemmas.{here, own_is, forms_next, within_next, items_next}
-use Rattle.std.proofs.Common.{map}
+use Rattle.std.proofs.Common.{map, arith}
 use Rattle.smv_instances.specs.View.{instance_plain}
 use Rattle.smv_flat.specs.FlatForms.{forms_of}
 use Rattle.smv_flat.specs.FlatFormulas.{form_plain}
@@ -11,6 +11,15 @@ add_instance-requires-clause-own g c =
     own_is t c.args.origins.now c.loop-i.i c.loop-i.first c.own_count.result c.at.result.now
     (here t c.args.origins.now c.loop-i.i c.loop-i.first c.own_count.result c.len-i-end.result c.at.result.now c.len-i-end.ensures c.loop-i-test.true c.at.ensures c.loop-i.invariant.within c.own_count.ensures.bound c.own_count.ensures.own
     c.loop-i.invariant.items)
+
+pub add_instance-requires-clause-room : goal.add_instance-requires-clause-room
+add_instance-requires-clause-room g c =
+    let t = c.args.context.now.table.now in
+    let w =
+    within_next t c.args.origins.now c.loop-i.i c.loop-i.first c.own_count.result c.at.result.now
+    (here t c.args.origins.now c.loop-i.i c.loop-i.first c.own_count.result c.len-i-end.result c.at.result.now c.len-i-end.ensures c.loop-i-test.true c.at.ensures c.loop-i.invariant.within c.own_count.ensures.bound c.own_count.ensures.own
+    c.loop-i.invariant.items) in
+    omega (arith, w)
 
 pub loop-i-preserved : goal.loop-i-preserved
 loop-i-preserved g c =
