@@ -27,11 +27,11 @@ use Rattle.btor_witness.specs.Texts.{SpellsWitness}
 use Rattle.moxi_flat.specs.FlatSystem.{flat_of}
 use Rattle.moxi_layout.specs.LayoutLaws.{IsLaidOut}
 use Rattle.moxi_lines.specs.Lines.{lines_of}
-use Rattle.trace_lower.specs.Laws.{IsAcceptedBy, LoweredAreAccepted, LoweredComeBack}
+use Rattle.trace_lower.specs.Laws.{IsAcceptedBy, LoweredAreAccepted, LoweredComeBack, declared_by}
 use Rattle.trace_lower.specs.declared.lower.LowerEnd.{LowerEnd}
 use Rattle.trace_lower.specs.declared.lower.LowerEnd.TheVariants as lower_end
 use Rattle.trace_lower.specs.Ends.{IsLowerEnd}
-use Rattle.trace_lower.specs.Lowered.{lowered}
+use Rattle.trace_lower.specs.Lowered.{lowered, verdict_on}
 use Rattle.witness_lift.specs.Breaking.{IsFormOf}
 use Rattle.witness_lift.specs.Lifting.{lines_in}
 use Rattle.witness_lift.specs.LineLaws.{ModelLinesAreLaidOut, SpellsOnly, model_lines, model_system}
@@ -45,7 +45,7 @@ use Rattle.command_core.specs.laws.Files.{done_from, on_read}
 use Rattle.smv_commands.specs.Limits.{most_smv_bytes, most_trace_bytes}
 use Rattle.smv_commands.specs.Lowering.{IsLoweredTrace, IsLowering, RunsAreLowered, StatesRun, lowered_answer, lowered_text}
 use Rattle.smv_commands.specs.Models.{IsAcceptedModel, smv_too_long}
-use Rattle.smv_commands.specs.Traces.{IsRunAnswer, OfBytes, OfText, declared_by, of_trace, trace_too_long, verdict_on}
+use Rattle.smv_commands.specs.Traces.{IsRunAnswer, OfBytes, OfText, of_trace, trace_too_long}
 use Rattle.smv_commands.proofs.Forms.{read_of}
 use Rattle.smv_commands.proofs.LiftedRuns.{own_lines}
 use Rattle.smv_commands.proofs.TraceAnswers.{one_answer_to_trace}

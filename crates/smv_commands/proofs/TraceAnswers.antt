@@ -25,7 +25,9 @@ use Rattle.command_core.specs.laws.Given.{also_ok, also_stop, of_each}
 use Rattle.smv_commands.specs.Limits.{most_smv_bytes, most_trace_bytes}
 use Rattle.smv_commands.specs.Models.{IsCheckRefusal, IsFormIn, smv_too_long}
 use Rattle.smv_commands.specs.SmvJudgement.{IsSmvJudgement, verdict_answer}
-use Rattle.smv_commands.specs.Traces.{IsAnswerToTrace, IsRunAnswer, OfBytes, OfForm, OfModel, OfText, declared_by, of_trace, trace_too_long, verdict_on}
+use Rattle.smv_commands.specs.Traces.{IsAnswerToTrace, IsRunAnswer, OfBytes, OfForm, OfModel, OfText, of_trace, trace_too_long}
+use Rattle.trace_lower.specs.Laws.{declared_by}
+use Rattle.trace_lower.specs.Lowered.{verdict_on}
 use Rattle.smv_commands.proofs.Checked.{not_checked, one_check_refusal}
 use Rattle.smv_commands.proofs.Sources.{same_model}
 

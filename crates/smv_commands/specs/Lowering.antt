@@ -12,14 +12,15 @@ use Rattle.btor_witness.specs.declared.witness.Witness.{Witness}
 use Rattle.btor_witness.specs.Judging.{judged_btor}
 use Rattle.btor_witness.specs.Printing.{IsWithinLimits, printed}
 use Rattle.btor_witness.specs.Texts.{SpellsWitness}
-use Rattle.trace_lower.specs.Lowered.{lowered}
+use Rattle.trace_lower.specs.Lowered.{lowered, verdict_on}
 use Rattle.witness_lift.specs.LineLaws.{model_lines}
 use Rattle.command_core.specs.declared.answer.Answer.{Answer}
 use Rattle.command_core.specs.declared.answer.Answer.TheVariants.{No, Done}
 use Rattle.command_core.specs.declared.answer.Output.TheVariants.{Text}
 use Rattle.smv_commands.specs.Models.{IsAcceptedModel}
 use Rattle.smv_commands.specs.SmvLift.{lifted_run}
-use Rattle.smv_commands.specs.Traces.{IsAnswerToTrace, declared_by, verdict_on}
+use Rattle.smv_commands.specs.Traces.{IsAnswerToTrace}
+use Rattle.trace_lower.specs.Laws.{declared_by}
 use Rattle.smv_commands.specs.Translation.{btor_text}
 
 -- the printed witness that states the run

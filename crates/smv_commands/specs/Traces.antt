@@ -1,5 +1,5 @@
 -- What is answered to a trace of an SMV model, by the verdict on the run that it states.
-use Rattle.std.specs.Prelude.{◌≡◌, ◌⊎◌, ℕ, List, map, Result, Ok, Err}
+use Rattle.std.specs.Prelude.{◌≡◌, ◌⊎◌, ℕ, List, Result, Ok, Err}
 use Rattle.text_core.specs.declared.place.Kind.TheVariants.{Y}
 use Rattle.text_core.specs.declared.place.Refusal.{Refusal}
 use Rattle.text_core.specs.declared.verdict.Verdict.{Verdict}
@@ -7,13 +7,11 @@ use Rattle.text_core.specs.Outside.{Files}
 use Rattle.text_core.specs.Places.{start}
 use Rattle.smv_text.specs.Tree.{PlainSource}
 use Rattle.smv_meaning.specs.declared.value.Run.{Run}
-use Rattle.smv_meaning.specs.Values.{given}
-use Rattle.smv_meaning.specs.Runs.{judged_smv}
-use Rattle.smv_flat.specs.FlatForms.{flat_smv}
 use Rattle.smv_flatten.specs.FlatModel.{FlatModel}
-use Rattle.smv_trace.specs.Runs.{Declarations}
 use Rattle.smv_trace.specs.Texts.{trace_of}
 use Rattle.witness_lift.specs.Breaking.{IsFormOf}
+use Rattle.trace_lower.specs.Laws.{declared_by}
+use Rattle.trace_lower.specs.Lowered.{verdict_on}
 use Rattle.command_core.specs.declared.answer.Answer.{Answer}
 use Rattle.command_core.specs.declared.answer.Answer.TheVariants.{SecondRefused}
 use Rattle.command_core.specs.Reading.{GoesOn, SaysRead, file_within}
@@ -23,14 +21,6 @@ use Rattle.smv_commands.specs.Models.{IsAcceptedModel, IsRefusal, smv_too_long}
 -- what is answered to a trace that is too long
 abbrev pub trace_too_long : Answer
 trace_too_long = SecondRefused (record { kind = Y 5; place = start })
-
--- what a trace is read against
-abbrev pub declared_by : PlainSource → Declarations
-declared_by source = record { items = (flat_smv source).items; symbols = (flat_smv source).symbols }
-
--- the verdict on a run
-abbrev pub verdict_on : PlainSource → ℕ → Run → Verdict
-verdict_on source j run = judged_smv source j (map given run.states) (map given run.labels)
 
 module _ (answer_to : PlainSource → ℕ → Run → Verdict → Answer) where
   -- what is answered to the verdict on the run that a trace states, or the trace's refusal

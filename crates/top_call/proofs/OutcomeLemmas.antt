@@ -33,7 +33,8 @@ use Rattle.smv_commands.proofs.LoweredRuns as lowerings
 use Rattle.smv_commands.proofs.LoweredRuns.{one_lowering}
 use Rattle.smv_commands.specs.Lowering.{RunsAreLowered, StatesRun, lowered_text}
 use Rattle.smv_commands.specs.Models.{IsAcceptedModel}
-use Rattle.smv_commands.specs.Traces.{declared_by, verdict_on}
+use Rattle.trace_lower.specs.Laws.{declared_by}
+use Rattle.trace_lower.specs.Lowered.{verdict_on}
 use Rattle.smv_meaning.specs.declared.value.Run.{Run}
 use Rattle.smv_trace.specs.Texts.{trace_of}
 use Rattle.smv_commands.proofs.ScriptStands.{one_script}

@@ -53,7 +53,7 @@ use Rattle.moxi_lift.specs.Laws.{trace_of}
 use Rattle.moxi_lift.proofs.Upto.{at_upto}
 use Rattle.moxi_lower.specs.Laws.{LoweredAreLifted}
 use Rattle.witness_lift.specs.LineLaws.{model_system}
-use Rattle.trace_lower.specs.Laws.{LoweredComeBack, declared}
+use Rattle.trace_lower.specs.Laws.{LoweredComeBack, declared_by}
 use Rattle.trace_lower.specs.Lowered.{steps_in}
 use Rattle.trace_lower.proofs.Accepted.{last_fits, run_steps, variables_long}
 use Rattle.trace_lower.proofs.Meeting.{HasFits, environment_there}
@@ -286,7 +286,7 @@ module _ (back : ValuesComeBack) (source : PlainSource) (needed : ℕ) (read : I
   each_stated p (x ∷ xs) zero h a = (both_true (p x) (list_all p xs) a).0
   each_stated p (x ∷ xs) (suc i) h a = each_stated p xs i (omega (arith, h)) (both_true (p x) (list_all p xs) a).1
 
-  module _ (run : Run) (is : IsRun source (map given run.states) (map given run.labels)) (stated : IsStatedRun (declared source) run) where
+  module _ (run : Run) (is : IsRun source (map given run.states) (map given run.labels)) (stated : IsStatedRun (declared_by source) run) where
     abbrev k : ℕ
     k = length run.labels
 

@@ -5,7 +5,7 @@ use Rattle.smv_text.specs.Tree.{PlainSource}
 use Rattle.smv_meaning.specs.declared.value.Run.{Run}
 use Rattle.smv_flatten.specs.FlatModel.{FlatModel}
 use Rattle.witness_lift.specs.Breaking.{IsFormOf}
-use Rattle.trace_lower.specs.Lowered.{judged}
+use Rattle.trace_lower.specs.Lowered.{verdict_on}
 use Rattle.trace_lower.specs.declared.lower.LowerEnd.{LowerEnd}
 use Rattle.trace_lower.specs.declared.lower.LowerEnd.TheVariants.{No, NoMemory}
 
@@ -15,5 +15,5 @@ HasForm f = (source : PlainSource) × IsFormOf source f
 
 -- the judge says No, with this step and clause; of want of memory nothing is said
 abbrev pub IsLowerEnd : PlainSource → ℕ → Run → LowerEnd → Type 0
-IsLowerEnd source j run (No step clause) = judged source j run ≡ verdict.No step clause
+IsLowerEnd source j run (No step clause) = verdict_on source j run ≡ verdict.No step clause
 IsLowerEnd source j run NoMemory = Unit {0}

@@ -17,7 +17,7 @@ use Rattle.moxi_layout.specs.LayoutLaws.{IsLaidOut}
 use Rattle.moxi_lift.specs.Laws.{trace_of}
 use Rattle.moxi_lift.specs.Lifted.{lifted}
 use Rattle.witness_lift.specs.LineLaws.{model_system}
-use Rattle.trace_lower.specs.Lowered.{judged, lowered}
+use Rattle.trace_lower.specs.Lowered.{lowered, verdict_on}
 
 -- It is a witness for the lines, the judge accepts it, and its statements stand in rising order.
 pub record IsAcceptedBy (lines : List Line) (w : Witness) : Type 0 where
@@ -29,12 +29,12 @@ pub record IsAcceptedBy (lines : List Line) (w : Witness) : Type 0 where
 
 -- so is that of each run which breaks an invariant, for all lines that lay the model's system out
 abbrev pub LoweredAreAccepted : Type 0
-LoweredAreAccepted = (source : PlainSource) (needed : ℕ) → IsRead source → IsAccepted source needed → (j : ℕ) (run : Run) → judged source j run ≡ Yes
+LoweredAreAccepted = (source : PlainSource) (needed : ℕ) → IsRead source → IsAccepted source needed → (j : ℕ) (run : Run) → verdict_on source j run ≡ Yes
     → (lines : List Line) → IsLaidOut (model_system source) lines → IsAcceptedBy lines (lowered source j run)
 
 -- what a trace of the model is read against
-abbrev pub declared : PlainSource → Declarations
-declared source = record { items = (flat_smv source).items; symbols = (flat_smv source).symbols }
+abbrev pub declared_by : PlainSource → Declarations
+declared_by source = record { items = (flat_smv source).items; symbols = (flat_smv source).symbols }
 
 -- the run to which a witness of the model's lines is lifted
 abbrev pub lifted_run : PlainSource → Witness → Run
@@ -42,5 +42,5 @@ lifted_run source w = decoded_run source (trace_of (lifted (model_system source)
 
 -- the run comes back from it, where it states each variable in flat order
 abbrev pub LoweredComeBack : Type 0
-LoweredComeBack = (source : PlainSource) (needed : ℕ) → IsRead source → IsAccepted source needed → (j : ℕ) (run : Run) → IsStatedRun (declared source) run → judged source j run ≡ Yes
+LoweredComeBack = (source : PlainSource) (needed : ℕ) → IsRead source → IsAccepted source needed → (j : ℕ) (run : Run) → IsStatedRun (declared_by source) run → verdict_on source j run ≡ Yes
     → lifted_run source (lowered source j run) ≡ run

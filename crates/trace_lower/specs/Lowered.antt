@@ -39,5 +39,5 @@ abbrev pub lowered : PlainSource → ℕ → Run → Witness
 lowered source j run = lowered_trace (model_system source) j (steps_in source run.states run.labels)
 
 -- the verdict on the run
-abbrev pub judged : PlainSource → ℕ → Run → Verdict
-judged source j run = judged_smv source j (map given run.states) (map given run.labels)
+abbrev pub verdict_on : PlainSource → ℕ → Run → Verdict
+verdict_on source j run = judged_smv source j (map given run.states) (map given run.labels)

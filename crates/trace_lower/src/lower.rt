@@ -8,7 +8,7 @@ ghost use Rattle.smv_items.specs.FlatItemView.{item_plain};
 ghost use Rattle.smv_flatten.specs.FlatModel.{IsRead};
 ghost use Rattle.witness_lift.specs.Breaking.{IsFormOf};
 ghost use Rattle.trace_lower.specs.Ends.{HasForm, IsLowerEnd};
-ghost use Rattle.trace_lower.specs.Lowered.{judged, lowered};
+ghost use Rattle.trace_lower.specs.Lowered.{lowered, verdict_on};
 ghost use Rattle.trace_lower.specs.Stating.{frame_of as frame_in, variable_count};
 
 use crate::frames::frame_of;
@@ -75,7 +75,7 @@ pub fn lower_flat(alloc: Global, flat: &Flat, j: u32, run: &Run) -> Result<Witne
     requires model { HasForm flat.now }
     requires few { length run.now.states < 2 ^ 32 }
     ensures lowered { IfOk result (λ w. (source : PlainSource) → IsFormOf source flat.now → w ≡ lowered source j run.now) }
-    ensures judged { IfOk result (λ w. (source : PlainSource) → IsFormOf source flat.now → judged source j run.now ≡ Yes) }
+    ensures judged { IfOk result (λ w. (source : PlainSource) → IsFormOf source flat.now → verdict_on source j run.now ≡ Yes) }
     ensures refused { IfErr result (λ e. (source : PlainSource) → IsFormOf source flat.now → IsLowerEnd source j run.now e) }
 {
     symbols_differ();
@@ -105,7 +105,7 @@ pub fn lower_smv(alloc: Global, source: &Source, j: u32, run: &Run) -> Result<Wi
     requires accepted { IsAccepted (plain_source source.now) j }
     requires few { length run.now.states < 2 ^ 32 }
     ensures lowered { IfOk result (λ w. w ≡ lowered (plain_source source.now) j run.now) }
-    ensures judged { IfOk result (λ w. judged (plain_source source.now) j run.now ≡ Yes) }
+    ensures judged { IfOk result (λ w. verdict_on (plain_source source.now) j run.now ≡ Yes) }
     ensures refused { IfErr result (IsLowerEnd (plain_source source.now) j run.now) }
 {
     match flatten(alloc, source, j) {

@@ -1,8 +1,7 @@
 use Rattle.std.proofs.Common.{◌≡◌, sym, subst}
 use Rattle.text_core.specs.declared.verdict.Verdict.TheVariants.{Yes}
 use Rattle.witness_lift.specs.Breaking.{IsFormOf}
-use Rattle.trace_lower.specs.Lowered.{lowered}
-use Rattle.smv_commands.specs.Traces.{verdict_on}
+use Rattle.trace_lower.specs.Lowered.{lowered, verdict_on}
 use Rattle.smv_commands.proofs.LoweredRuns.{OfForms, lowered_fits, said_denied, said_lowered}
 use Rattle.smv_commands.proofs.lower.run_answer.Goals as goal
 
