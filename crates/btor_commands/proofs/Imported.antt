@@ -54,10 +54,10 @@ served stands fs model b before now h s w =
 
 -- ---- the script, wherever its check stands
 
-met_there : (s : PlainScript) (p : Place) (q : Query) (k : ℕ) (trace : Trace) → MeetsQuery (with_place s p) q k trace → MeetsQuery s q k trace
+pub met_there : (s : PlainScript) (p : Place) (q : Query) (k : ℕ) (trace : Trace) → MeetsQuery (with_place s p) q k trace → MeetsQuery s q k trace
 met_there s p q k trace m = record { behaves = m.behaves; assumptions = m.assumptions; currents = m.currents; reached = m.reached; reached_last = m.reached_last }
 
-met_here : (s : PlainScript) (p : Place) (q : Query) (k : ℕ) (trace : Trace) → MeetsQuery s q k trace → MeetsQuery (with_place s p) q k trace
+pub met_here : (s : PlainScript) (p : Place) (q : Query) (k : ℕ) (trace : Trace) → MeetsQuery s q k trace → MeetsQuery (with_place s p) q k trace
 met_here s p q k trace m = record { behaves = m.behaves; assumptions = m.assumptions; currents = m.currents; reached = m.reached; reached_last = m.reached_last }
 
 pub there : {T : Type 0} (xs : List T) (j : ℕ) → j < length xs → (x : T) × (slice_get xs j ≡ Some x)

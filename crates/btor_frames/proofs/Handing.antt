@@ -35,7 +35,7 @@ read_fits before s op x h =
       | inr e ↦ (λ g. subst (λ o. GivenFits before s o x) e g, λ g. subst (λ o. GivenFits before s o x) (sym e) g)
     ]
 
-if_some_at : {X : Type 0} (o : Option X) (P : X → Type 0) (x : X) → o ≡ Some x → IfSome o P → P x
+pub if_some_at : {X : Type 0} (o : Option X) (P : X → Type 0) (x : X) → o ≡ Some x → IfSome o P → P x
 if_some_at o P x e h = subst (λ p. IfSome p P) e h
 
 -- the word fits where it has the line's width

@@ -1,5 +1,5 @@
 -- The loop over the lines.
-use Rattle.std.proofs.Common.{◌≡◌, ℕ, suc, ◌+◌, ◌<◌, ◌≤◌, Bool, true, false, cond, List, [], ◌∷◌, ◌++◌, length, take, Option, Some, refl, sym, ap, ◌∙◌, subst, arith}
+use Rattle.std.proofs.Common.{◌≡◌, ℕ, suc, ◌+◌, ◌<◌, ◌≤◌, Bool, true, false, cond, List, [], ◌∷◌, ◌++◌, length, take, Some, refl, sym, ap, ◌∙◌, subst, arith}
 use Rattle.std.specs.Prelude.{slice_get, IfSome, slice_set, IsTrue}
 use Rattle.std.proofs.lemmas.List.{take_more_set, length-set}
 use Rattle.word_core.specs.Words.{BitVector}
@@ -15,6 +15,7 @@ use Rattle.btor_tree.proofs.Rows.{row_upto, word_here, Given, GivesWords, frame_
 use Rattle.btor_tree.proofs.Paths.{given_of, first_gives, next_gives, whole_frame, reads, frees_read, first_inits, next_nexts}
 use Rattle.btor_frames.specs.Steps.{is_given, value_kind, value_word, handed_at, handed_for, handed_line, HandedFit, IsStep}
 use Rattle.btor_frames.proofs.Lines.{if_some}
+use Rattle.btor_frames.proofs.Handing.{if_some_at}
 
 pub count_step : (kind : LineOp → Bool) (lines : List Line) (i : ℕ) (l : Line) → slice_get lines i ≡ Some l → count_of kind (take (i + 1) lines) ≡ count_of kind (take i lines) + cond (kind l.op) 1 0
 count_step kind lines i l h =
@@ -38,9 +39,6 @@ gives false lines last inputs free w f h = first_gives lines w (handed_at lines 
 pub frame_so_far : (begun : Bool) (lines : List Line) (last inputs free spare : List BitVector) (i : ℕ) → IsWellFormed lines → (IsTrue begun → IsFrame lines last) → HandedFit lines inputs free → i ≤ length lines → take i spare ≡ row_upto lines (giving begun lines last inputs free) i → IsFrame (take i lines) (take i spare)
 frame_so_far begun lines last inputs free spare i w f h le e =
     subst (IsFrame (take i lines)) (sym e) (frame_upto lines (giving begun lines last inputs free) w (gives begun lines last inputs free w f h) i le)
-
-if_some_at : {X : Type 0} (o : Option X) (P : X → Type 0) (x : X) → o ≡ Some x → IfSome o P → P x
-if_some_at o P x e h = subst (λ p. IfSome p P) e h
 
 here : (lines : List Line) (row : List BitVector) (i : ℕ) (G : Given) (l : Line) → slice_get lines i ≡ Some l → computed (take i lines) row l.sort l.op l.args (G l.op i row) ≡ word_here (take i lines) row (slice_get lines i) i G
 here lines row i G l g = sym (ap (λ o. word_here (take i lines) row o i G) g)

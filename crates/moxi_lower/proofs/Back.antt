@@ -39,7 +39,7 @@ decoded_back es (Choice n) (datum.Bits v) h = absurd h
 
 -- ---- the values of a list, one behind the other
 
-upto_front : (values : Values) (n : ℕ) → values_upto values (suc n) ≡ values 0 ∷ values_upto (λ v. values (suc v)) n
+pub upto_front : (values : Values) (n : ℕ) → values_upto values (suc n) ≡ values 0 ∷ values_upto (λ v. values (suc v)) n
 upto_front values zero = refl
 upto_front values (suc n) = ap (λ (ds : List Datum). ds ++ values (suc n) ∷ []) (upto_front values n)
 

@@ -28,11 +28,12 @@ use Rattle.moxi_scripts.specs.laws.WholeParts.{all_append, all_at, all_map, all_
 use Rattle.moxi_flat.specs.FlatSystem.{flat_of, locals_upto}
 use Rattle.moxi_flat.specs.Limits.{flat_refusal, has_name_twice, is_too_large}
 use Rattle.moxi_trace.specs.ReadBack.{CanBeReadBack, CanBeSpelled}
-use Rattle.moxi_trace.specs.Texts.{constant_name, name_at}
+use Rattle.moxi_trace.specs.Texts.{constant_name}
 use Rattle.moxi_trace.specs.Traces.{names_of}
 use Rattle.moxi_trace.specs.Values.{constant_named, constant_of, symbol_value}
 use Rattle.moxi_responses.specs.Declaring.{declared_of}
 use Rattle.moxi_responses.proofs.Spelled.{AllBarred, instances_barred, name_barred, spelled_barred, variables_barred}
+use Rattle.moxi_term_print.specs.Terms.{name_at}
 
 -- ---- names in lists
 

@@ -10,8 +10,9 @@ use Rattle.moxi_terms.specs.declared.term.Variable.{Variable}
 use Rattle.moxi_terms.specs.Sorts.{IsConstant}
 use Rattle.moxi_trace.specs.Responses.{ReadsResponse}
 use Rattle.moxi_trace.specs.Traces.{Declared, IsStatedTrace, is_within, most_bytes, names_of}
-use Rattle.moxi_trace.specs.Texts.{name_at, constant_name}
+use Rattle.moxi_trace.specs.Texts.{constant_name}
 use Rattle.moxi_trace.specs.Values.{symbol_value}
+use Rattle.moxi_term_print.specs.Terms.{name_at}
 
 -- the name can stand in bars
 abbrev pub CanBeSpelled : List ℕ → Type 0

@@ -1,5 +1,5 @@
 -- The printed form of a response. The layout is this translator's own; it is modelled on MoXI's responses (SPIN 2024).
-use Rattle.std.specs.Prelude.{◌+◌, ℕ, Bool, true, false, Option, Some, None, List, [], ◌∷◌, ◌++◌, slice_get, slice_index_or, codes, decimal}
+use Rattle.std.specs.Prelude.{◌+◌, ℕ, Bool, true, false, Option, Some, None, List, [], ◌∷◌, ◌++◌, slice_get, codes, decimal}
 use Rattle.text_core.specs.Binary.{binary_digits}
 use Rattle.moxi_sexpr.specs.declared.form.Atom.TheVariants as atoms
 use Rattle.moxi_sexpr.specs.Printing.{printed_atom}
@@ -8,14 +8,11 @@ use Rattle.moxi_terms.specs.declared.data.Datum.TheVariants as datum
 use Rattle.moxi_terms.specs.declared.term.Enumeration.{Enumeration}
 use Rattle.moxi_terms.specs.declared.term.Variable.{Variable}
 use Rattle.moxi_trace.specs.Traces.{Declared}
+use Rattle.moxi_term_print.specs.Terms.{name_at}
 
 -- a name as a symbol is printed, in bars where it needs them
 abbrev pub symbol_text : List ℕ → List ℕ
 symbol_text name = printed_atom (atoms.Symbol name false)
-
--- the name at this place
-abbrev pub name_at : List (List ℕ) → ℕ → List ℕ
-name_at names i = slice_index_or names i []
 
 abbrev pub constants_of : Option Enumeration → List (List ℕ)
 constants_of None = []

@@ -11,7 +11,6 @@ use Rattle.moxi_script_print.specs.Printing.{shown_script}
 use Rattle.smv_script_laws.specs.RunLaws.{HasRun, HasQueries, invariant_count}
 use Rattle.smv_script.specs.Script.{script_for}
 use Rattle.moxi_scripts.specs.declared.script.Query.{Query}
-use Rattle.moxi_scripts.specs.Script.{PlainScript}
 use Rattle.moxi_scripts.specs.Behaviour.{Trace}
 use Rattle.moxi_scripts.specs.Meeting.{MeetsQuery}
 use Rattle.moxi_script_print.specs.Again.{with_place}
@@ -26,6 +25,7 @@ use Rattle.smv_commands.specs.Limits.{most_smv_bytes}
 use Rattle.smv_commands.specs.Models.{IsCheckRefusal, smv_too_long}
 use Rattle.smv_commands.proofs.Checked.{not_checked, one_check_refusal}
 use Rattle.smv_commands.proofs.Sources.{same_model}
+use Rattle.btor_commands.proofs.Imported.{met_here, met_there}
 
 -- ---- one answer
 
@@ -40,12 +40,6 @@ pub one_script : (fs : Files) (model : List ℕ) (a b : Answer) → IsScript fs 
 one_script fs model a b h k = goes_once (file_within fs model most_smv_bytes smv_too_long) OfBytes one_of_bytes a b h k
 
 -- ---- the script, wherever its check stands
-
-met_there : (s : PlainScript) (p : Place) (q : Query) (k : ℕ) (trace : Trace) → MeetsQuery (with_place s p) q k trace → MeetsQuery s q k trace
-met_there s p q k trace m = record { behaves = m.behaves; assumptions = m.assumptions; currents = m.currents; reached = m.reached; reached_last = m.reached_last }
-
-met_here : (s : PlainScript) (p : Place) (q : Query) (k : ℕ) (trace : Trace) → MeetsQuery s q k trace → MeetsQuery (with_place s p) q k trace
-met_here s p q k trace m = record { behaves = m.behaves; assumptions = m.assumptions; currents = m.currents; reached = m.reached; reached_last = m.reached_last }
 
 one_query : (o : Option Query) (q r : Query) → o ≡ Some q → o ≡ Some r → q ≡ r
 one_query o q r e f = cc

@@ -18,6 +18,7 @@ use Rattle.smv_meaning.specs.laws.Booleans.{both_true, two_true, absurd_bool}
 use Rattle.smv_laws.proofs.Typable.{split}
 use Rattle.smv_items.specs.FlatItems.{Content, variable, definition, actual, Origin, with_content, actual_content, actual_items, domain_content, variable_item, definition_item, element_items, items_here, origins_of}
 use Rattle.smv_flat_laws.proofs.FlatSections.{AllModules, named_good}
+use Rattle.smv_laws.proofs.CheckedLaws.{four}
 
 abbrev pub is_stated : PlainDomain → Bool
 is_stated (members []) = false
@@ -83,13 +84,6 @@ AllDeclared ms = AllByRecursion OriginDeclared ms
 declared_on : (ms ns : List Origin) → AllDeclared ms → AllDeclared ns → AllDeclared (ms ++ ns)
 declared_on [] ns a b = b
 declared_on (m ∷ ms) ns a b = (a.0, declared_on ms ns a.1 b)
-
-four : (a b c d : Bool) → (a && (b && (c && (d && true)))) ≡ true → (((a && b) && c) && d) ≡ true
-four true true true true h = refl
-four true true true false h = absurd_bool h
-four true true false d h = absurd_bool h
-four true false c d h = absurd_bool h
-four false b c d h = absurd_bool h
 
 if_type : (b : Bool) (d : PlainDomain) → b ≡ true → HasType (domain_type d) → HasType (if b then domain_type d else None)
 if_type true d b h = h

@@ -51,7 +51,7 @@ variable_at (x ∷ vs) zero s h = (x, refl, some_same x.sort s h)
     some_same a b g = cc
 variable_at (x ∷ vs) (suc v) s h = variable_at vs v s h
 
-same_item : (x y : PlainFlatItem) → Some x ≡ Some y → x ≡ y
+pub same_item : (x y : PlainFlatItem) → Some x ≡ Some y → x ≡ y
 same_item x y e = cc
 
 module _ (t : List Instance) (width : ℕ) (model : Model t width) (most : width ≤ WIDEST) (state label : Valuation) (fit : Fit t state label) where

@@ -58,6 +58,7 @@ use Rattle.trace_lower.specs.Lowered.{steps_in}
 use Rattle.trace_lower.proofs.Accepted.{last_fits, run_steps, variables_long}
 use Rattle.trace_lower.proofs.Meeting.{HasFits, environment_there}
 use Rattle.trace_lower.proofs.Steps.{last_label, nth, step_at, step_of, steps_long}
+use Rattle.smv_script_laws.proofs.RowEnvironments.{same_item}
 
 -- ---- names that differ
 
@@ -170,9 +171,6 @@ labels_picked kind.Define = refl
 labels_picked kind.Actual = refl
 
 -- ---- a model
-
-same_item : (x y : PlainFlatItem) → Some x ≡ Some y → x ≡ y
-same_item x y e = cc
 
 module _ (back : ValuesComeBack) (source : PlainSource) (needed : ℕ) (read : IsRead source) (accepted : IsAccepted source needed) where
   abbrev width : ℕ

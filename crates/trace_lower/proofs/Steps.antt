@@ -1,5 +1,5 @@
 -- The steps of a run's states and labels, by their numbers.
-use Rattle.std.proofs.Common.{◌≡◌, ℕ, zero, suc, ◌<◌, true, List, [], ◌∷◌, ◌++◌, length, map, Some, refl, sym, ap, ◌∙◌, subst, arith}
+use Rattle.std.proofs.Common.{◌≡◌, ℕ, zero, suc, ◌<◌, true, List, [], ◌∷◌, length, map, Some, refl, sym, ap, ◌∙◌, subst, arith}
 use Rattle.std.specs.Prelude.{IsTrue, slice_get, slice_index_or}
 use Rattle.std.specs.List.{AllByRecursion, list_all}
 use Rattle.smv_text.specs.Tree.{PlainSource}
@@ -21,6 +21,7 @@ use Rattle.moxi_lift.specs.Lifted.{values_upto}
 use Rattle.witness_lift.specs.LineLaws.{model_system}
 use Rattle.smv_judge.specs.Taken.{labels_left}
 use Rattle.trace_lower.specs.Lowered.{next_label, steps_in}
+use Rattle.moxi_lower.proofs.Back.{upto_front}
 
 -- the value of this number, or the other one behind the list
 abbrev pub nth : List Valuation → Valuation → ℕ → Valuation
@@ -52,10 +53,6 @@ module _ (source : PlainSource) (d : Valuation) where
       step_at states (labels_left labels) i (omega (arith, h)) ∙ ap (step_of source (nth (map given states) d i)) (label_later labels i)
 
 -- ---- values of their sorts
-
-upto_front : (values : Values) (n : ℕ) → values_upto values (suc n) ≡ values 0 ∷ values_upto (λ v. values (suc v)) n
-upto_front values zero = refl
-upto_front values (suc n) = ap (λ (ds : List Datum). ds ++ values (suc n) ∷ []) (upto_front values n)
 
 pub upto_fits : (es : List Enumeration) (ss : List Sort) (values : Values) → ((v : ℕ) (s : Sort) → slice_get ss v ≡ Some s → IsOf es s (values v)) → Fit es ss (values_upto values (length ss))
 upto_fits es [] values h = tt

@@ -59,9 +59,9 @@ loop-next-preserved g c =
       row = c.in_ok-clause.ensures.row c.in-None.is;
       held = c.in_ok-clause.ensures.held c.in-None.is;
       taken = one_taken (λ rows. g.T.TakesRows.took c.args.taker.now rows c.loop-next.taker) (λ rows. g.T.TakesRows.took c.args.taker.now rows c.take_row.new.self) flat c.args.last.now (c.args.first.now ∷ c.args.following.now) c.args.labels.now c.loop-next.state.now c.in-Some-split_first.label.now (c.in-Some.next.now ∷ us) ls
-      (row_values c.as_slice.result.now) (subst (λ vs. IsRow flat s l (row_values vs)) (sym c.as_slice.ensures.value) (c.in_ok-clause.ensures.before c.in-None.is)) (c.in_ok-take_row.ensures c.args.taker.now)
-      (subst (λ (xs : List (List Given)). TakenBefore (λ rows. g.T.TakesRows.took c.args.taker.now rows c.loop-next.taker) flat c.args.last.now (c.args.first.now ∷ c.args.following.now) c.args.labels.now (c.loop-next.state.now ∷ c.in-Some.next.now ∷ us) xs) labels
-      (subst (λ (xs : List (List Given)). TakenBefore (λ rows. g.T.TakesRows.took c.args.taker.now rows c.loop-next.taker) flat c.args.last.now (c.args.first.now ∷ c.args.following.now) c.args.labels.now (c.loop-next.state.now ∷ xs) c.loop-next.labels.now) states i.taken));
+          (row_values c.as_slice.result.now) (subst (λ vs. IsRow flat s l (row_values vs)) (sym c.as_slice.ensures.value) (c.in_ok-clause.ensures.before c.in-None.is)) (c.in_ok-take_row.ensures c.args.taker.now)
+          (subst (λ (xs : List (List Given)). TakenBefore (λ rows. g.T.TakesRows.took c.args.taker.now rows c.loop-next.taker) flat c.args.last.now (c.args.first.now ∷ c.args.following.now) c.args.labels.now (c.loop-next.state.now ∷ c.in-Some.next.now ∷ us) xs) labels
+          (subst (λ (xs : List (List Given)). TakenBefore (λ rows. g.T.TakesRows.took c.args.taker.now rows c.loop-next.taker) flat c.args.last.now (c.args.first.now ∷ c.args.following.now) c.args.labels.now (c.loop-next.state.now ∷ xs) c.loop-next.labels.now) states i.taken));
       same = λ source k.
           let t = instances_of source in
           let rest = judged_after t c.args.j (c.loop-next.step + 1) u (map given us) (map given ls) in
