@@ -1,5 +1,5 @@
 -- What is printed for a model that a text spells is lexed and spelled again, as the same model but for places.
-use Rattle.std.proofs.Common.{◌≡◌, ℕ, suc, ◌+◌, Bool, true, false, cond, nat_le, Option, Some, None, List, [], ◌∷◌, ◌++◌, map, refl, sym, ap, ◌∙◌}
+use Rattle.std.proofs.Common.{◌≡◌, ℕ, suc, ◌+◌, Bool, true, false, cond, nat_le, Option, Some, None, Result, Ok, Err, IfOk, List, [], ◌∷◌, ◌++◌, map, refl, sym, ap, ◌∙◌, subst}
 use Rattle.std.proofs.lemmas.List.{map-append}
 use Rattle.std.specs.List.{flat_map}
 use Rattle.text_core.specs.declared.place.Place.{Place}
@@ -11,7 +11,7 @@ use Rattle.smv_text.specs.Tree.{Tree, truth, number, literal, name, prefix, chai
 use Rattle.smv_text.specs.Heights.{height, link_heights, branch_heights, heights, chain_height, branches_height, highest, most_height, place_of, first_high, list_of, of_domain, of_items, of_definitions, of_assignments, of_element, of_modules}
 use Rattle.smv_text.specs.Sources.{SpellsSource}
 use Rattle.smv_print.specs.Printing.{printed, source_kinds}
-use Rattle.smv_print.specs.Unplaced.{unplaced, unplaced_links, unplaced_branches, unplaced_trees, unplaced_domain, unplaced_item, unplaced_definition, unplaced_assignment, unplaced_element, unplaced_module, unplaced_source, IsReadAgain}
+use Rattle.smv_print.specs.Unplaced.{unplaced, unplaced_links, unplaced_branches, unplaced_trees, unplaced_domain, unplaced_item, unplaced_definition, unplaced_assignment, unplaced_element, unplaced_module, unplaced_source, IsReadAgain, ReadsBack}
 use Rattle.smv_lex.specs.Spelling.{joined}
 use Rattle.smv_lex.specs.Printable.{ArePrintable, CanAllBePrinted}
 use Rattle.smv_print.proofs.NestingSources.{source_prints}
@@ -129,3 +129,10 @@ read_again again printable source end text xs l s =
       spells = spelled;
       low = low_again spelled.model source spelled.same;
     }
+
+-- the same of what the printer answers
+pub printed_back : {E : Type 0} (source : PlainSource)
+    → ((source : PlainSource) (end : Place) (text : List ℕ) (xs : List Token) → Lexes text xs → SpellsSource source end xs → IsReadAgain source (printed source)) → (r : Result (List ℕ) E)
+    → IfOk r (λ text. text ≡ printed source) → IfOk r (ReadsBack source)
+printed_back source law (Ok text) h = λ end given xs l s. subst (IsReadAgain source) (sym h) (law source end given xs l s)
+printed_back source law (Err e) h = tt

@@ -102,3 +102,7 @@ pub record IsReadAgain (source : PlainSource) (text : List ℕ) : Type 0 where
   pub lexed : Lexes text tokens
   pub spells : SpellsSameSource source (after start text) tokens
   pub low : first_high (of_modules source.modules) ≡ None → first_high (of_modules spells.model.modules) ≡ None
+
+-- where some text spells the model, this one is read as it again
+abbrev pub ReadsBack : PlainSource → List ℕ → Type 0
+ReadsBack source text = (end : Place) (given : List ℕ) (xs : List Token) → Lexes given xs → SpellsSource source end xs → IsReadAgain source text

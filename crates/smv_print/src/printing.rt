@@ -8,7 +8,7 @@ ghost use Rattle.smv_print.specs.Ranks.{rank, chain_class, tree_rank};
 ghost use Rattle.smv_text.specs.Sources.{section_word, SpellsSource};
 ghost use Rattle.smv_text.specs.Lexing.{kinds, Lexes};
 ghost use Rattle.smv_text.specs.Grammar.{Spells};
-ghost use Rattle.smv_print.specs.Unplaced.{unplaced_source, SpellsSame, SpellsSameSource, IsReadAgain};
+ghost use Rattle.smv_print.specs.Unplaced.{unplaced_source, SpellsSame, SpellsSameSource, IsReadAgain, ReadsBack};
 ghost use Rattle.smv_text.specs.declared.token.Token.{Token};
 ghost use Rattle.smv_text.specs.declared.token.TokenKind.{TokenKind};
 ghost use Rattle.smv_text.specs.declared.operators.Infix.{Infix};
@@ -531,13 +531,8 @@ fn put_module(out: &mut Text, behind: bool, declared: &Module) -> Result<(), NoM
     put_rest(out, declared)
 }
 
-/// Returns the text of a model in a canonical spelling.
-///
-/// There are single blanks between the tokens and no line ends. Brackets appear only where the grammar needs them; a
-/// `;` wherever one is allowed. An empty list of parameters has no brackets, and `word` stands without `unsigned`. A
-/// word literal is `0ud`, its width, `_` and its decimal digits (NuSMV 2.6 User Manual, 2.2 and 2.3). The layout is our
-/// own.
-pub fn print(alloc: Global, source: &Source) -> Result<Text, NoMemory>
+// Returns the printed form of a model.
+fn source_text(alloc: Global, source: &Source) -> Result<Text, NoMemory>
     ensures { IfOk result (λ text. text ≡ printed (plain_source source.now)) }
 {
     let mut out = Text::new(alloc);
@@ -547,6 +542,22 @@ pub fn print(alloc: Global, source: &Source) -> Result<Text, NoMemory>
         behind = true;
     }
     Ok(out)
+}
+
+/// Returns the text of a model in a canonical spelling.
+///
+/// There are single blanks between the tokens and no line ends. Brackets appear only where the grammar needs them; a
+/// `;` wherever one is allowed. An empty list of parameters has no brackets, and `word` stands without `unsigned`. A
+/// word literal is `0ud`, its width, `_` and its decimal digits (NuSMV 2.6 User Manual, 2.2 and 2.3). The layout is our
+/// own.
+pub fn print(alloc: Global, source: &Source) -> Result<Text, NoMemory>
+    // What is printed.
+    ensures text { IfOk result (λ text. text ≡ printed (plain_source source.now)) }
+    // It reads back to the same model but for places and counts of tokens, where some text spells the model.
+    ensures again { IfOk result (ReadsBack (plain_source source.now)) }
+{
+    printed_is_read();
+    source_text(alloc, source)
 }
 
 /// Proves that the printed tokens spell the same tree again, except for places and counts of tokens.
