@@ -18,7 +18,7 @@ fn is_input(kind: ItemKind) -> bool
 }
 
 // Whether the model has inputs.
-#[tactic(auto, using(crate::proofs::Lists::front_is, crate::proofs::Lists::end_is))]
+#[tactic(auto, using(smv_meaning::specs::laws::Lists::front_is, smv_meaning::specs::laws::Lists::end_is))]
 fn has_inputs(items: &FlatItems) -> bool
     ensures { result ≡ has_inputs (map item_plain items.now) }
 {
