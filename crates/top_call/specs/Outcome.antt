@@ -1,4 +1,4 @@
--- The answer that words and files define, and when a call may give an answer.
+-- The answer that words and files define, and when a call may return an answer.
 use Rattle.std.specs.Prelude.{◌≡◌, ◌≢◌, ℕ, true, false, List, [], Option, Some, None, IfSome}
 use Rattle.text_core.specs.Outside.{Files}
 use Rattle.text_core.specs.declared.place.Refusal.{Refusal}
@@ -17,22 +17,23 @@ use Rattle.command_core.specs.Sinks.{IsPart}
 abbrev pub outcome_of : List (List ℕ) → Files → Answer → Type 0
 outcome_of words files answer = Answers (command_of words) files answer
 
--- the files are told, and the defined answer is that a file isn't there: the model's, or where the model is accepted the second
+-- the files are exposed, and the defined answer is that a file is missing: the model, or for an accepted model the second file
 abbrev pub IsAbsent : Option Files → Option Command → Type 0
 IsAbsent files command = IsTold files (λ fs. (name : List ℕ) × Answers command fs (Unread name))
 
--- When an answer may be given to words. Where they are no command, that is said, whatever the shelf tells. The answer to a
--- command is the defined one, where the files are told. That a file of it was not read may also be said where the count rose.
+-- When a call may return an answer for words. Where they are no command, it returns that, whatever the shelf exposes. For a
+-- command it returns the defined answer, where the files are exposed. Where a fault was counted, it may also return that a file
+-- of the command was not read.
 abbrev pub MayAnswer : Option Files → Option Command → Type 0 → Answer → Type 0
 MayAnswer files None rose answer = answer ≡ Usage
 MayAnswer files (Some command) rose answer = MayGive files (files_of command) (λ fs given. Answers (Some command) fs given) rose answer
 
--- where the files are told, a file of the command was begun last, or else what was begun before
+-- where the files are exposed, the open file is one of the command, or the one from before
 abbrev pub BeginsFor : Option Files → Option (List ℕ) → Option (List ℕ) → Option Command → Type 0
 BeginsFor files before now command = BeginsAmong files before now (named_files command)
 
--- The line that a run with this status notes. What it says of the model, the second file or the stated run is as defined, where
--- the files are told.
+-- The line noted for this status. Where the files are exposed, what it says of the model, the second file or the stated run is
+-- as defined.
 abbrev pub IsLineOf : Option Files → Option Command → Type 0 → Status → List ℕ → Type 0
 IsLineOf files command rose status.Done line = line ≡ []
 IsLineOf files command rose status.No line = (step : ℕ) × (clause : Clause) × IfSome files (λ fs. Answers command fs (No step clause)) × (line ≡ denied_line step clause)
@@ -44,7 +45,7 @@ IsLineOf files command rose status.NoMemory line = line ≡ no_memory_line
 IsLineOf files command rose status.SecondRefused line =
     (refusal : Refusal) × IfSome files (λ fs. Answers command fs (SecondRefused refusal)) × (line ≡ refused_line (refused_words true) refusal)
 
--- a front was noted of the line of a status that has one, but the one for a fault of a sink
+-- a prefix was noted of the line of some status other than Done and WriteFault
 pub record IsCutLine (files : Option Files) (command : Option Command) (rose : Type 0) (before now : Option (List ℕ)) : Type 0 where
   pub ending : Status
   pub notes : ending ≢ status.Done

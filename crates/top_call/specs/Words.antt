@@ -1,4 +1,4 @@
--- The commands: the words that ask for one, its files, and what is answered to it.
+-- The commands: the words of each, its files, and its answer.
 use Rattle.std.specs.Prelude.{◌≡◌, ◌≤◌, ℕ, List, [], ◌∷◌, Option, Some, None, if◌then◌else◌, codes, option_map, option_and_then}
 use Rattle.std.specs.Str.{bytes_eq}
 use Rattle.std.specs.Borrow.{Bor}
@@ -41,7 +41,7 @@ task_in (row ∷ rows) word = if bytes_eq word row.0 then Some row.1 else task_i
 abbrev pub row : Bor (List ℕ) × Task → List ℕ × Task
 row r = (r.0.now, r.1)
 
--- the task on one file, or on a number of cells
+-- the command of a task on one file, or on a number of cells
 abbrev pub on_one : Task → List ℕ → Option Command
 on_one task.SmvToBtor model = Some (SmvToBtor model)
 on_one task.SmvToMoxi model = Some (SmvToMoxi model)
@@ -51,7 +51,7 @@ on_one task.Simplify model = Some (Simplify model)
 on_one task.Generate count = option_map Generate (cell_count count)
 on_one task word = None
 
--- the task on two files; those on a trace alone take an invariant's number, which is 0 where none is given
+-- the command of a task on two files; only those on a trace take the number of an invariant, which is 0 by default
 abbrev pub on_two : Task → List ℕ → List ℕ → Option ℕ → Option Command
 on_two task.JudgeBtor model second None = Some (JudgeBtor model second)
 on_two task.JudgeSmv model second None = Some (JudgeSmv model second 0)
@@ -68,7 +68,7 @@ command_with task (word ∷ []) None = on_one task word
 command_with task (model ∷ second ∷ []) property = on_two task model second property
 command_with task places property = None
 
--- the command that words are which stand by themselves, with an invariant's number where one is given
+-- the command of positional words, with the number of an invariant where one is given
 abbrev pub command_by : List (List ℕ) → Option ℕ → Option Command
 command_by [] property = None
 command_by (word ∷ places) property = option_and_then (λ task. command_with task places property) (task_in commands word)
@@ -76,11 +76,11 @@ command_by (word ∷ places) property = option_and_then (λ task. command_with t
 abbrev pub command_from : PlainWords → Option Command
 command_from given = command_by given.positionals given.property
 
--- the command that words are, if they are one
+-- the command that the words give, if they give one
 abbrev pub command_of : List (List ℕ) → Option Command
 command_of words = option_and_then command_from (words_of words)
 
--- a number of cells is one of those that are made
+-- the number of cells is one that can be generated
 abbrev pub IsInRange : Command → Type 0
 IsInRange (Generate n) = (1 ≤ n) × (n ≤ 1000)
 IsInRange other = Unit {0}
@@ -100,7 +100,7 @@ files_of (LiftMoxi model second) = model ∷ second ∷ []
 files_of (Lower model second j) = model ∷ second ∷ []
 files_of (Generate n) = []
 
--- the files that words name, none where they are no command
+-- the files that the words name; none where they are no command
 abbrev pub named_files : Option Command → List (List ℕ)
 named_files None = []
 named_files (Some command) = files_of command
@@ -121,7 +121,7 @@ Answers (Some (LiftMoxi model second)) files answer = IsMoxiLift files model sec
 Answers (Some (Lower model second j)) files answer = IsLowering files model second j answer
 Answers (Some (Generate n)) files answer = IsGenerated n answer
 
--- what was written for a command stands for its model; a verdict stands for nothing else
+-- the text written for a command is a correct translation, lift or lowering of its files; for a verdict nothing is required
 abbrev pub Serves : Option Command → Files → Option (List ℕ) → Option (List ℕ) → Type 0
 Serves None files before now = ⊥
 Serves (Some (SmvToBtor model)) files before now = IsServed files model before now
@@ -135,7 +135,7 @@ Serves (Some (Lower model second j)) files before now = IsLoweredTrace files mod
 Serves (Some (Generate n)) files before now = IsSummarized n before now
 Serves (Some command) files before now = Unit {0}
 
--- no second file was begun by a judge of witnesses; other commands may want memory for theirs
+-- `judge-btor` opened no second file; other commands may run out of memory on theirs
 abbrev pub BeginsNoSecond : Option Files → Option (List ℕ) → Option (List ℕ) → Option Command → Type 0
 BeginsNoSecond files before now (Some (JudgeBtor model second)) = BeginsOnly files before now model
 BeginsNoSecond files before now command = Unit {0}
