@@ -1,4 +1,4 @@
--- Which witness is written for a trace of an SMV model that the judge accepts, and what it stands for (BTOR2, CAV 2018, witness format).
+-- The witness written for an accepted trace of an SMV model, and its properties (BTOR2, CAV 2018, witness format).
 use Rattle.std.specs.Prelude.{◌≡◌, ℕ, List, Option, Some, Ok}
 use Rattle.text_core.specs.declared.verdict.Verdict.{Verdict}
 use Rattle.text_core.specs.declared.verdict.Verdict.TheVariants as verdict
@@ -27,7 +27,7 @@ use Rattle.smv_commands.specs.Translation.{btor_text}
 unfoldable pub lowered_text : PlainSource → ℕ → Run → List ℕ
 lowered_text source j run = printed (model_lines source) (lowered source j run)
 
--- what is answered to a verdict: the witness, or the step and the clause that fails
+-- the answer for a verdict: the witness, or the step and the clause that fails
 abbrev pub lowered_answer : PlainSource → ℕ → Run → Verdict → Answer
 lowered_answer source j run verdict.Yes = Done (Text (lowered_text source j run))
 lowered_answer source j run (verdict.No step clause) = No step clause
@@ -36,11 +36,11 @@ lowered_answer source j run (verdict.No step clause) = No step clause
 abbrev pub IsLowering : Files → List ℕ → List ℕ → ℕ → Answer → Type 0
 IsLowering files model second j answer = IsAnswerToTrace lowered_answer files model second j answer
 
--- ---- what a witness stands for
+-- ---- the properties of the witness
 
--- The text is the printed witness that states the run, up to the bad line of invariant j. The judge of witnesses says Yes of it for
--- all lines that the model's BTOR2 text spells, the text is read as this witness where it is within the limits of witnesses, and it is
--- lifted to the run again.
+-- The text is the printed witness that states the run, for the bad line of invariant j. The judge of witnesses accepts it for all
+-- lines that the model's BTOR2 text spells. The text parses to this witness where it is within the limits of witnesses. The witness
+-- is lifted to the same run.
 pub record StatesRun (source : PlainSource) (j : ℕ) (run : Run) (text : List ℕ) : Type 0 where
   pub witness : Witness
   pub exact : witness ≡ lowered source j run
@@ -50,12 +50,12 @@ pub record StatesRun (source : PlainSource) (j : ℕ) (run : Run) (text : List �
   pub read : (lines : List Line) → SpellsLines (btor_text source) lines → IsWithinLimits lines witness → SpellsWitness lines text witness
   pub lifted : lifted_run source witness ≡ run
 
--- what is written for each trace of an accepted model of which the judge says Yes
+-- for each accepted trace of an accepted model, the written text states its run
 abbrev pub RunsAreLowered : Type 0
 RunsAreLowered = (bytes : List ℕ) (j : ℕ) (source : PlainSource) → IsAcceptedModel bytes j source → (trace : List ℕ) (run : Run) → trace_of (declared_by source) trace ≡ Ok run → verdict_on source j run ≡ verdict.Yes
     → StatesRun source j run (lowered_text source j run)
 
--- the text that was written is the witness of the run that the trace in the second file states, for the model in the first
+-- the written text is the witness of the run that the trace in the second file states, for the model in the first
 pub record IsLoweredTrace (files : Files) (model second : List ℕ) (j : ℕ) (before now : Option (List ℕ)) : Type 0 where
   pub bytes : List ℕ
   pub there : file_at files model ≡ Some bytes

@@ -1,4 +1,4 @@
--- Which SMV model bytes spell whose checks hold, where the invariant of a number is wanted, 0 where any will do; else their refusal.
+-- The accepted SMV model that bytes spell, or their refusal. The model must have more invariants than a given number.
 use Rattle.std.specs.Prelude.{◌≡◌, ◌⊎◌, ◌≤◌, ℕ, List, length, Some, None}
 use Rattle.text_core.specs.declared.end.End.{End}
 use Rattle.text_core.specs.declared.end.End.TheVariants.{Bad, NoMemory}
@@ -27,7 +27,7 @@ pub record IsModel (bytes : List ℕ) (model : PlainSource) : Type 0 where
   pub spelled : SpellsSource model (after start bytes) tokens
   pub low : first_high (of_modules model.modules) ≡ None
 
--- what is answered to an SMV text that is too long
+-- the answer for an SMV text that is too long
 abbrev pub smv_too_long : Answer
 smv_too_long = Refused (record { kind = S 1; place = start })
 
@@ -36,19 +36,19 @@ pub record IsAcceptedModel (bytes : List ℕ) (needed : ℕ) (source : PlainSour
   pub is_model : IsModel bytes source
   pub accepted : IsAccepted source needed
 
--- this is the flat form of the model that the bytes spell, whose checks hold, with the model's weight
+-- this is the flat form of the accepted model that the bytes spell, with the weight of the model
 pub record IsFormIn (bytes : List ℕ) (needed : ℕ) (f : FlatModel) : Type 0 where
   pub source : PlainSource
   pub accepted : IsAcceptedModel bytes needed source
   pub form : IsFormOf source f
   pub weight : f.weight ≡ weight_of source
 
--- the refusal of a text that spells no model: that of its words, or else of its grammar
+-- the refusal of a text that spells no model: that of the lexer, or else of the parser
 abbrev pub IsTextRefusal : List ℕ → Refusal → Type 0
 IsTextRefusal bytes refusal =
     IsLexRefusal bytes refusal ⊎ ((tokens : List Token) × Lexes bytes tokens × IsRefused (record { items = tokens; end = after start bytes }) (Bad refusal))
 
--- the refusal of a text: that of its words or its grammar, or else the first check of its model that fails
+-- the refusal of a text: that of the lexer or the parser, or else the first failing check of its model
 abbrev pub IsCheckRefusal : List ℕ → ℕ → Refusal → Type 0
 IsCheckRefusal bytes needed refusal = IsTextRefusal bytes refusal ⊎ ((model : PlainSource) × IsModel bytes model × (first_refusal model needed ≡ Some refusal))
 
@@ -62,6 +62,6 @@ abbrev pub IsModelEnd : List ℕ → ℕ → End → Type 0
 IsModelEnd bytes needed (Bad refusal) = IsCheckRefusal bytes needed refusal
 IsModelEnd bytes needed NoMemory = Unit {0}
 
--- the answer that the model is refused so
+-- the answer is this refusal of the model
 abbrev pub IsRefusal : List ℕ → ℕ → Answer → Type 0
 IsRefusal bytes needed answer = (refusal : Refusal) × IsCheckRefusal bytes needed refusal × (answer ≡ Refused refusal)

@@ -1,4 +1,4 @@
--- Which script is written for an SMV model, and what it stands for (MoXI, SPIN 2024).
+-- The script written for an SMV model, and its properties (MoXI, SPIN 2024).
 use Rattle.std.specs.Prelude.{◌≡◌, ◌↔◌, ℕ, ◌<◌, List, length, Option, Some}
 use Rattle.text_core.specs.Outside.{Files, file_at, grown}
 use Rattle.smv_text.specs.Tree.{PlainSource}
@@ -14,7 +14,7 @@ use Rattle.command_core.specs.Texts.{IsTextOr}
 use Rattle.smv_script_laws.specs.RunLaws.{HasRun, invariant_count}
 use Rattle.smv_commands.specs.Models.{IsAcceptedModel, IsCheckRefusal, smv_too_long}
 
--- the printed script that stands for a model
+-- the printed script of a model
 unfoldable pub moxi_text : PlainSource → List ℕ
 moxi_text source = lines_text (shown_script (script_for source))
 
@@ -22,31 +22,32 @@ moxi_text source = lines_text (shown_script (script_for source))
 abbrev pub IsScriptText : List ℕ → List ℕ → Type 0
 IsScriptText bytes text = (source : PlainSource) × IsAcceptedModel bytes 0 source × (text ≡ moxi_text source)
 
--- this text, or the refusal of the bytes
+-- the answer for the bytes: this text, or their refusal
 abbrev pub OfBytes : List ℕ → Answer → Type 0
 OfBytes bytes answer = IsTextOr (IsScriptText bytes) (IsCheckRefusal bytes 0) answer
 
--- the script of the model in the file of this name
+-- the answer for the file with this name: the script of its model, or its refusal
 abbrev pub IsScript : Files → List ℕ → Answer → Type 0
 IsScript files model answer = GoesOn (file_within files model most_smv_bytes smv_too_long) OfBytes answer
 
--- ---- what a script stands for
+-- ---- the properties of the script
 
--- the script stands for the model: as many queries as invariants, and a run that breaks an invariant exactly where a trace meets its query
+-- the script is a translation of the model: it has a query for each invariant, and a run breaks invariant j after k steps exactly
+-- where a trace meets query j at step k
 pub record StandsForModel (source : PlainSource) (script : PlainScript) : Type 0 where
   pub queries : length script.check.queries ≡ invariant_count source
   pub runs : (j k : ℕ) → j < invariant_count source → HasRun source j k ↔ HasTrace script j k
 
--- the text spells a script, and each script that it spells stands for the model
+-- the text spells a script, and each script that it spells is a translation of the model
 pub record WritesScript (source : PlainSource) (text : List ℕ) : Type 0 where
   pub there : (script : PlainScript) × SpellsText text script
   pub each : (script : PlainScript) → SpellsText text script → StandsForModel source script
 
--- what is written for each accepted model
+-- the text written for each accepted model is correct
 abbrev pub ScriptsStand : Type 0
 ScriptsStand = (bytes : List ℕ) (source : PlainSource) → IsAcceptedModel bytes 0 source → WritesScript source (moxi_text source)
 
--- the text that was written stands for the model that the file of this name spells
+-- the written text is correct for the model that the file with this name spells
 pub record IsServed (files : Files) (name : List ℕ) (before now : Option (List ℕ)) : Type 0 where
   pub bytes : List ℕ
   pub there : file_at files name ≡ Some bytes

@@ -1,4 +1,4 @@
--- What a judge of traces answers.
+-- The answer of the judge of traces.
 use Rattle.std.specs.Prelude.{ℕ, ◌-◌, List, length}
 use Rattle.text_core.specs.declared.verdict.Verdict.{Verdict}
 use Rattle.text_core.specs.declared.verdict.Verdict.TheVariants as verdict
@@ -10,7 +10,7 @@ use Rattle.command_core.specs.declared.answer.Answer.TheVariants.{No, Done}
 use Rattle.command_core.specs.declared.answer.Output.TheVariants as output
 use Rattle.smv_commands.specs.Traces.{IsAnswerToTrace}
 
--- what is answered to a verdict: the invariant and the last step, or the step and the clause that fails
+-- the answer for a verdict: the invariant and the last step, or the step and the clause that fails
 abbrev pub verdict_answer : PlainSource → ℕ → Run → Verdict → Answer
 verdict_answer source j run verdict.Yes = Done (output.Broken j (length run.states - 1))
 verdict_answer source j run (verdict.No step clause) = No step clause

@@ -1,4 +1,4 @@
--- To which trace a witness of an SMV model's BTOR2 text is lifted, and what it stands for (NuSMV 2.6 User Manual; BTOR2, CAV 2018).
+-- The trace to which a witness for an SMV model's BTOR2 text is lifted, and its properties (NuSMV 2.6 User Manual; BTOR2, CAV 2018).
 use Rattle.std.specs.Prelude.{◌≡◌, ◌⊎◌, ◌++◌, ◌-◌, ℕ, Bool, true, false, List, length, map, Option, Some}
 use Rattle.std.specs.List.{list_any}
 use Rattle.text_core.specs.Outside.{Files, file_at, grown}
@@ -29,17 +29,17 @@ use Rattle.smv_commands.specs.Models.{IsAcceptedModel, IsRefusal, smv_too_long}
 use Rattle.smv_commands.specs.Translation.{Accepts, btor_text}
 use Rattle.btor_commands.specs.Lifting.{OfLines}
 
--- the run for which steps of the model's script stand, all of them but for the inputs of the last
+-- the run that steps of the model's script represent; the inputs of the last step are left out
 abbrev pub run_for : PlainSource → List (List Datum) → Run
 run_for source steps = decoded_run source (trace_of steps) (length steps - 1)
 
--- the run for which the steps stand to which a witness is lifted, a state for each frame
+-- the run to which a witness is lifted, with a state for each frame
 abbrev pub lifted_run : PlainSource → Witness → Run
 lifted_run source w = run_for source (lifted (model_system source) w)
 
 -- ---- whether a model has inputs
 
--- a variable, and no instance
+-- the declaration is a variable, not an instance
 abbrev pub is_variable : PlainDomain → Bool
 is_variable (instance name actuals) = false
 is_variable d = true
@@ -48,13 +48,13 @@ abbrev pub declares_inputs : PlainElement → Bool
 declares_inputs (vars Input variables) = list_any (λ v. is_variable v.domain) variables
 declares_inputs e = false
 
--- an input is declared in some instance
+-- some instance declares an input
 abbrev pub model_has_inputs : PlainSource → Bool
 model_has_inputs source = list_any (λ at. list_any declares_inputs at.module.elements) (instances_of source)
 
 -- ---- the trace
 
--- the trace of a run that breaks the invariant of this number, as it is printed; with inputs where the model has some
+-- the printed trace of a run that breaks the invariant of this number; with inputs where the model has some
 unfoldable pub run_text : Bool → ℕ → Run → List ℕ
 run_text inputs j run = claim_front j ++ (claim_back (length run.states) ++ steps_text inputs run.states run.labels)
 
@@ -62,25 +62,25 @@ run_text inputs j run = claim_front j ++ (claim_back (length run.states) ++ step
 unfoldable pub lifted_trace : PlainSource → Witness → List ℕ
 lifted_trace source w = run_text (model_has_inputs source) w.bad (lifted_run source w)
 
--- what is answered to the witness in the second file, for the model that the bytes spell, or the bytes' refusal
+-- the answer for the witness in the second file and the model that the bytes spell, or the refusal of the bytes
 abbrev pub OfBytes : Files → List ℕ → List ℕ → Answer → Type 0
 OfBytes files second bytes answer =
     ((source : PlainSource) × IsAcceptedModel bytes 0 source × OfLines files second (btor_text source) (lifted_trace source) answer) ⊎ IsRefusal bytes 0 answer
 
--- what is answered to the witness in the second file, for the model in the first
+-- the answer for the witness in the second file and the model in the first
 abbrev pub IsSmvLift : Files → List ℕ → List ℕ → Answer → Type 0
 IsSmvLift files model second answer = GoesOn (file_within files model most_smv_bytes smv_too_long) (OfBytes files second) answer
 
--- ---- what is answered for a flat form
+-- ---- the trace by a flat form
 
--- the text of a flat form's run to which a witness is lifted
+-- the printed trace to which a witness is lifted, by a flat form of the model
 abbrev pub trace_in : FlatModel → Witness → List ℕ
 trace_in f w = run_text (has_inputs (map item_plain f.items)) w.bad (run_lifted_to f w)
 
--- ---- what a trace stands for
+-- ---- the properties of the trace
 
--- The text is the trace of a run of the model with a state for each frame, whose last state breaks the invariant of the bad line. It is
--- the run to which the words of the witness's inputs are decoded, and no other.
+-- The text is the trace of a run of the model with a state for each frame. The last state breaks the invariant of the bad line. The run
+-- is the only one to which the words of the witness's inputs are decoded.
 pub record LiftsBack (source : PlainSource) (w : Witness) (text : List ℕ) : Type 0 where
   pub run : Run
   pub exact : run ≡ lifted_run source w
@@ -88,12 +88,12 @@ pub record LiftsBack (source : PlainSource) (w : Witness) (text : List ℕ) : Ty
   pub each_frame : length run.states ≡ length w.frames
   pub breaks : BreaksAt source w.bad (length w.frames - 1) (map given run.states) (map given run.labels)
 
--- what a witness of an accepted model's text is lifted to, where the judge says Yes of it
+-- each accepted witness for the text of an accepted model is lifted to such a trace
 abbrev pub RunsAreLifted : Type 0
 RunsAreLifted = (bytes : List ℕ) (source : PlainSource) → Accepts bytes source → (lines : List Line) → SpellsLines (btor_text source) lines → (text : List ℕ) (w : Witness) → SpellsWitness lines text w → judged_btor lines w Yes
     → LiftsBack source w (lifted_trace source w)
 
--- the text that was written is the trace to which the witness in the second file is lifted, for the model in the first
+-- the written text is the trace to which the witness in the second file is lifted, for the model in the first
 pub record IsLiftedTrace (files : Files) (model second : List ℕ) (before now : Option (List ℕ)) : Type 0 where
   pub bytes : List ℕ
   pub there : file_at files model ≡ Some bytes

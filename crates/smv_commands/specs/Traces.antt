@@ -1,4 +1,4 @@
--- What is answered to a trace of an SMV model, by the verdict on the run that it states.
+-- The answer for a trace of an SMV model, by the verdict on the run that it states.
 use Rattle.std.specs.Prelude.{◌≡◌, ◌⊎◌, ℕ, List, Result, Ok, Err}
 use Rattle.text_core.specs.declared.place.Kind.TheVariants.{Y}
 use Rattle.text_core.specs.declared.place.Refusal.{Refusal}
@@ -18,12 +18,12 @@ use Rattle.command_core.specs.Reading.{GoesOn, SaysRead, file_within}
 use Rattle.smv_commands.specs.Limits.{most_smv_bytes, most_trace_bytes}
 use Rattle.smv_commands.specs.Models.{IsAcceptedModel, IsRefusal, smv_too_long}
 
--- what is answered to a trace that is too long
+-- the answer for a trace that is too long
 abbrev pub trace_too_long : Answer
 trace_too_long = SecondRefused (record { kind = Y 5; place = start })
 
 module _ (answer_to : PlainSource → ℕ → Run → Verdict → Answer) where
-  -- what is answered to the verdict on the run that a trace states, or the trace's refusal
+  -- the answer for the verdict on the run that a trace states, or the trace's refusal
   abbrev pub of_trace : PlainSource → ℕ → Result Run Refusal → Answer
   of_trace source j (Ok run) = answer_to source j run (verdict_on source j run)
   of_trace source j (Err refusal) = SecondRefused refusal
@@ -31,15 +31,15 @@ module _ (answer_to : PlainSource → ℕ → Run → Verdict → Answer) where
   abbrev pub OfText : PlainSource → ℕ → List ℕ → Answer → Type 0
   OfText source j text answer = answer ≡ of_trace source j (trace_of (declared_by source) text)
 
-  -- what is answered to the trace in the second file, for the model
+  -- the answer for the trace in the second file, for the model
   abbrev pub OfModel : Files → List ℕ → ℕ → PlainSource → Answer → Type 0
   OfModel files second j source answer = GoesOn (file_within files second most_trace_bytes trace_too_long) (OfText source j) answer
 
-  -- what is answered to the trace in the second file, for the model that the bytes spell, or the bytes' refusal
+  -- the answer for the trace in the second file, for the model that the bytes spell, or the refusal of the bytes
   abbrev pub OfBytes : Files → List ℕ → ℕ → List ℕ → Answer → Type 0
   OfBytes files second j bytes answer = ((source : PlainSource) × IsAcceptedModel bytes j source × OfModel files second j source answer) ⊎ IsRefusal bytes j answer
 
-  -- what is answered to the trace in the second file, for the model in the first
+  -- the answer for the trace in the second file, for the model in the first
   abbrev pub IsAnswerToTrace : Files → List ℕ → List ℕ → ℕ → Answer → Type 0
   IsAnswerToTrace files model second j answer = GoesOn (file_within files model most_smv_bytes smv_too_long) (OfBytes files second j) answer
 

@@ -1,4 +1,4 @@
--- Which BTOR2 text is written for an SMV model, and what it stands for (BTOR2, CAV 2018; the bound on its lines is this translator's own).
+-- The BTOR2 text written for an SMV model, and its properties (BTOR2, CAV 2018; the bound on its lines is this translator's own).
 use Rattle.std.specs.Prelude.{◌≡◌, ℕ, ◌+◌, ◌*◌, ◌≤◌, List, length, Option, Some}
 use Rattle.text_core.specs.Outside.{Files, file_at, grown}
 use Rattle.smv_text.specs.Tree.{PlainSource}
@@ -14,7 +14,7 @@ use Rattle.smv_commands.specs.Limits.{most_smv_bytes}
 use Rattle.smv_commands.specs.Models.{IsAcceptedModel, IsCheckRefusal, smv_too_long}
 use Rattle.witness_lift.specs.LineLaws.{Translates, model_lines}
 
--- the text that is written for a model: the printed lines of its script's flat system
+-- the text written for a model: the printed lines of its script's flat system
 unfoldable pub btor_text : PlainSource → List ℕ
 btor_text source = printed (model_lines source)
 
@@ -26,18 +26,18 @@ Accepts bytes source = IsAcceptedModel bytes 0 source
 abbrev pub IsBtorText : List ℕ → List ℕ → Type 0
 IsBtorText bytes text = (source : PlainSource) × IsAcceptedModel bytes 0 source × (text ≡ btor_text source)
 
--- this text, or the refusal of the bytes
+-- the answer for the bytes: this text, or their refusal
 abbrev pub OfBytes : List ℕ → Answer → Type 0
 OfBytes bytes answer = IsTextOr (IsBtorText bytes) (IsCheckRefusal bytes 0) answer
 
--- the BTOR2 text of the model in the file of this name
+-- the answer for the file with this name: the BTOR2 text of its model, or its refusal
 abbrev pub IsTranslation : Files → List ℕ → Answer → Type 0
 IsTranslation files model answer = GoesOn (file_within files model most_smv_bytes smv_too_long) OfBytes answer
 
--- ---- what a text stands for
+-- ---- the properties of the text
 
--- The text spells one list of lines, and these stand for the model. They are at most sixteen for each token of the model's weight,
--- and 200 more, and no two sorts, constants or operators among them say the same.
+-- The text spells one list of lines, which are a translation of the model. They are at most 16 for each unit of the model's weight,
+-- and 200 more. No two sorts, constants or operators among them are equal.
 pub record TranslatesTo (source : PlainSource) (text : List ℕ) : Type 0 where
   pub lines : List Line
   pub spells : SpellsLines text lines
@@ -46,11 +46,11 @@ pub record TranslatesTo (source : PlainSource) (text : List ℕ) : Type 0 where
   pub few : length lines ≤ 16 * weight_of source + 200
   pub distinct : HasNoTwoAlike lines
 
--- what is written for each accepted model
+-- the text written for each accepted model is correct
 abbrev pub TranslationsStand : Type 0
 TranslationsStand = (bytes : List ℕ) (source : PlainSource) → Accepts bytes source → TranslatesTo source (btor_text source)
 
--- the text that was written stands for the model that the file of this name spells
+-- the written text is correct for the model that the file with this name spells
 pub record IsServed (files : Files) (name : List ℕ) (before now : Option (List ℕ)) : Type 0 where
   pub bytes : List ℕ
   pub there : file_at files name ≡ Some bytes
