@@ -1,4 +1,4 @@
--- What a judge of responses answers.
+-- The answer of the judge of responses.
 use Rattle.std.specs.Prelude.{◌≡◌, ◌⊎◌, ℕ, ◌-◌, List, length, Some, None, Result, Ok, Err}
 use Rattle.text_core.specs.declared.place.Kind.TheVariants.{Y}
 use Rattle.text_core.specs.declared.place.Refusal.{Refusal}
@@ -23,15 +23,15 @@ use Rattle.command_core.specs.Reading.{GoesOn, file_within}
 use Rattle.moxi_commands.specs.Limits.{most_script_bytes, most_response_bytes}
 use Rattle.moxi_commands.specs.Scripts.{IsRefusal, IsScriptText, script_too_long}
 
--- what is answered to a response that is too long
+-- the answer for a response that is too long
 abbrev pub response_too_long : Answer
 response_too_long = SecondRefused (record { kind = Y 5; place = start })
 
--- the answer that the stated trace meets its query: the query's name as a symbol is printed, and the last step
+-- the answer that the stated trace meets its query: the query's name, printed as a symbol, and the last step
 abbrev pub met_answer : PlainScript → Answered → Answer
 met_answer s r = Done (output.Met (symbol_text (query_at s.check.queries r.query).name) (length r.trace - 1))
 
--- what is answered to a verdict: that the query is met, or the step and the clause that fails
+-- the answer for a verdict: that the query is met, or the step and the clause that fails
 abbrev pub verdict_answer : PlainScript → Answered → Verdict → Answer
 verdict_answer s r verdict.Yes = met_answer s r
 verdict_answer s r (verdict.No step clause) = No step clause
@@ -53,7 +53,7 @@ OfText s text answer = answer ≡ of_response s (response_of (declared_of s) tex
 abbrev pub OfScript : Files → List ℕ → PlainScript → Answer → Type 0
 OfScript files second s answer = GoesOn (file_within files second most_response_bytes response_too_long) (OfText s) answer
 
--- the verdict on the response in the second file, for the script that the bytes spell, or the bytes' refusal
+-- the verdict on the response in the second file, for the script that the bytes spell, or the refusal of the bytes
 abbrev pub OfBytes : Files → List ℕ → List ℕ → Answer → Type 0
 OfBytes files second bytes answer = ((s : PlainScript) × IsScriptText bytes s × (flat_refusal s ≡ None) × OfScript files second s answer) ⊎ IsRefusal bytes answer
 

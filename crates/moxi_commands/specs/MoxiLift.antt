@@ -1,4 +1,4 @@
--- To which response a witness of a MoXI script's BTOR2 text is lifted, and what it stands for (MoXI, SPIN 2024; BTOR2, CAV 2018).
+-- The response to which a witness for a MoXI script's BTOR2 text is lifted, and its properties (MoXI, SPIN 2024; BTOR2, CAV 2018).
 use Rattle.std.specs.Prelude.{◌≡◌, ◌⊎◌, ◌-◌, ℕ, List, length, Option, Some, None, slice_get}
 use Rattle.text_core.specs.Outside.{Files, file_at, grown}
 use Rattle.text_core.specs.declared.place.Refusal.{Refusal}
@@ -30,24 +30,24 @@ use Rattle.btor_commands.specs.Lifting.{OfLines}
 unfoldable pub lifted_response : PlainScript → Witness → List ℕ
 lifted_response script w = response_text (declared_of script) w.bad (lifted (flat_of script) w)
 
--- what is answered to the witness in the second file, for the script that the bytes spell, or the bytes' refusal
+-- the answer for the witness in the second file and the script that the bytes spell, or the refusal of the bytes
 abbrev pub OfBytes : Files → List ℕ → List ℕ → Answer → Type 0
 OfBytes files second bytes answer =
     ((script : PlainScript) × IsInstantiated bytes script × OfLines files second (btor_text script) (lifted_response script) answer) ⊎ IsRefusal bytes answer
 
--- what is answered to the witness in the second file, for the script in the first
+-- the answer for the witness in the second file and the script in the first
 abbrev pub IsMoxiLift : Files → List ℕ → List ℕ → Answer → Type 0
 IsMoxiLift files model second answer = GoesOn (file_within files model most_script_bytes script_too_long) (OfBytes files second) answer
 
--- what is answered to the witness in the second file, for the script, or the refusal of the system that its check instantiates
+-- the answer for the witness in the second file and the script, or the refusal of the system that its check instantiates
 abbrev pub OfChecks : Files → List ℕ → PlainScript → Answer → Type 0
 OfChecks files second script answer =
     ((flat_refusal script ≡ None) × OfLines files second (btor_text script) (lifted_response script) answer) ⊎ ((refusal : Refusal) × (flat_refusal script ≡ Some refusal) × (answer ≡ Refused refusal))
 
--- ---- what a response stands for
+-- ---- the properties of the response
 
--- The text is the response of a trace with a step for each frame, which meets the query of the bad line at its last step. It is the
--- trace to which the words of the witness's inputs are decoded, and no other.
+-- The text is the response of a trace with a step for each frame. The trace meets the query of the bad line at its last step. It is
+-- the only one to which the words of the witness's inputs are decoded.
 pub record LiftsBack (script : PlainScript) (w : Witness) (text : List ℕ) : Type 0 where
   pub steps : List (List Datum)
   pub exact : steps ≡ lifted (flat_of script) w
@@ -57,12 +57,12 @@ pub record LiftsBack (script : PlainScript) (w : Witness) (text : List ℕ) : Ty
   pub there : slice_get script.check.queries w.bad ≡ Some query
   pub meets : MeetsQuery script query (length w.frames - 1) (trace_of steps)
 
--- what a witness of a script's text is lifted to, where the judge says Yes of it
+-- each accepted witness for the text of a script is lifted to such a response
 abbrev pub TracesAreLifted : Type 0
 TracesAreLifted = (bytes : List ℕ) (script : PlainScript) → IsInstantiated bytes script → (lines : List Line) → SpellsLines (btor_text script) lines → (text : List ℕ) (w : Witness) → SpellsWitness lines text w → judged_btor lines w Yes
     → LiftsBack script w (lifted_response script w)
 
--- the text that was written is the response to which the witness in the second file is lifted, for the script in the first
+-- the written text is the response to which the witness in the second file is lifted, for the script in the first
 pub record IsLiftedResponse (files : Files) (model second : List ℕ) (before now : Option (List ℕ)) : Type 0 where
   pub bytes : List ℕ
   pub there : file_at files model ≡ Some bytes

@@ -1,4 +1,4 @@
--- Which MoXI script bytes spell; else their refusal, or that of the system that its check instantiates (MoXI, SPIN 2024).
+-- The MoXI script that bytes spell, their refusal, or that of the system that the check instantiates (MoXI, SPIN 2024).
 use Rattle.std.specs.Prelude.{◌≡◌, ◌⊎◌, ◌≤◌, ℕ, List, length, Some}
 use Rattle.text_core.specs.declared.end.End.{End}
 use Rattle.text_core.specs.declared.end.End.TheVariants.{Bad, NoMemory}
@@ -22,7 +22,7 @@ pub record IsScriptText (bytes : List ℕ) (script : PlainScript) : Type 0 where
   pub formed : SpellsForms bytes forms
   pub spelled : SpellsScript forms (after start bytes) script
 
--- what is answered to a script that is too long
+-- the answer for a script that is too long
 abbrev pub script_too_long : Answer
 script_too_long = Refused (record { kind = M 16; place = start })
 
@@ -31,7 +31,7 @@ abbrev pub IsTextRefusal : List ℕ → Refusal → Type 0
 IsTextRefusal bytes refusal =
     RefusesWith bytes refusal ⊎ ((forms : Trees) × SpellsForms bytes forms × (least (script_failures forms (after start bytes)) ≡ Some refusal))
 
--- why bytes spell no script: their refusal, or want of memory
+-- why there is no script: the refusal of the bytes, or out of memory
 abbrev pub IsTextEnd : List ℕ → End → Type 0
 IsTextEnd bytes (Bad refusal) = IsTextRefusal bytes refusal
 IsTextEnd bytes NoMemory = Unit {0}
@@ -40,6 +40,6 @@ IsTextEnd bytes NoMemory = Unit {0}
 abbrev pub IsSystemRefusal : List ℕ → Refusal → Type 0
 IsSystemRefusal bytes refusal = IsTextRefusal bytes refusal ⊎ ((script : PlainScript) × IsScriptText bytes script × (flat_refusal script ≡ Some refusal))
 
--- the answer that the script is refused so
+-- the answer is this refusal of the script
 abbrev pub IsRefusal : List ℕ → Answer → Type 0
 IsRefusal bytes answer = (refusal : Refusal) × IsSystemRefusal bytes refusal × (answer ≡ Refused refusal)

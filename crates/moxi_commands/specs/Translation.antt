@@ -1,4 +1,4 @@
--- Which BTOR2 text is written for a script, and what it stands for (MoXI, SPIN 2024; BTOR2, CAV 2018).
+-- The BTOR2 text written for a script, and its properties (MoXI, SPIN 2024; BTOR2, CAV 2018).
 use Rattle.std.specs.Prelude.{◌≡◌, ◌↔◌, ℕ, ◌<◌, List, length, Option, Some, None}
 use Rattle.text_core.specs.declared.end.End.{End}
 use Rattle.text_core.specs.declared.end.End.TheVariants.{Bad, NoMemory}
@@ -29,7 +29,7 @@ pub record IsInstantiated (bytes : List ℕ) (script : PlainScript) : Type 0 whe
   pub is_script : IsScriptText bytes script
   pub accepted : flat_refusal script ≡ None
 
--- why there is no text: the refusal of the bytes, or want of memory
+-- why there is no text: the refusal of the bytes, or out of memory
 abbrev pub IsLinesEnd : List ℕ → End → Type 0
 IsLinesEnd bytes (Bad refusal) = IsSystemRefusal bytes refusal
 IsLinesEnd bytes NoMemory = Unit {0}
@@ -38,22 +38,23 @@ IsLinesEnd bytes NoMemory = Unit {0}
 abbrev pub IsLinesText : List ℕ → List ℕ → Type 0
 IsLinesText bytes text = (script : PlainScript) × IsInstantiated bytes script × (text ≡ btor_text script)
 
--- the text of the script that the bytes spell, or their refusal
+-- the answer for the bytes: the text of their script, or their refusal
 abbrev pub OfBytes : List ℕ → Answer → Type 0
 OfBytes bytes answer = IsTextOr (IsLinesText bytes) (IsSystemRefusal bytes) answer
 
--- the text of the script in the file of this name
+-- the answer for the file with this name: the text of its script, or its refusal
 abbrev pub IsBtorText : Files → List ℕ → Answer → Type 0
 IsBtorText files model answer = GoesOn (file_within files model most_script_bytes script_too_long) OfBytes answer
 
--- ---- what a text stands for
+-- ---- the properties of the text
 
--- the lines stand for the script: as many bad lines as queries, and a trace that meets a query exactly where frames have its bad line true
+-- the lines are a translation of the script: they have a bad line for each query, and a trace meets query j at step k exactly where
+-- frames 0 to k have bad line j true in the last
 pub record StandFor (script : PlainScript) (lines : List Line) : Type 0 where
   pub bads : length (operands is_bad lines) ≡ length script.check.queries
   pub frames : (j k : ℕ) → j < length script.check.queries → HasTrace script j k ↔ HasFrames lines j k
 
--- the text spells one list of lines, which stand for the script; no two sorts, constants or operators of them are alike
+-- the text spells one list of lines, which are a translation of the script; no two sorts, constants or operators among them are equal
 pub record WritesLines (script : PlainScript) (text : List ℕ) : Type 0 where
   pub lines : List Line
   pub spelled : SpellsLines text lines
@@ -65,11 +66,11 @@ pub record WritesLines (script : PlainScript) (text : List ℕ) : Type 0 where
 abbrev pub ScriptLinesAreLaidOut : Type 0
 ScriptLinesAreLaidOut = (bytes : List ℕ) (script : PlainScript) → IsInstantiated bytes script → IsLaidOut (flat_of script) (lines_of (flat_of script))
 
--- what is written for each script
+-- the text written for each script is correct
 abbrev pub LinesStand : Type 0
 LinesStand = (bytes : List ℕ) (script : PlainScript) → IsInstantiated bytes script → WritesLines script (btor_text script)
 
--- the text that was written stands for the script that the file of this name spells
+-- the written text is correct for the script that the file with this name spells
 pub record IsServed (files : Files) (name : List ℕ) (before now : Option (List ℕ)) : Type 0 where
   pub bytes : List ℕ
   pub there : file_at files name ≡ Some bytes
