@@ -1,4 +1,4 @@
--- Which MoXI script is written for a BTOR2 text, and what it stands for (BTOR2, CAV 2018; MoXI, SPIN 2024).
+-- The MoXI script written for a BTOR2 text, and its properties (BTOR2, CAV 2018; MoXI, SPIN 2024).
 use Rattle.std.specs.Prelude.{◌≡◌, ◌↔◌, ℕ, ◌<◌, List, length, Option, Some}
 use Rattle.text_core.specs.Outside.{Files, file_at, grown}
 use Rattle.text_core.specs.declared.end.End.TheVariants.{Bad}
@@ -26,31 +26,32 @@ script_text lines = lines_text (shown_script (import_of lines))
 abbrev pub IsScriptText : List ℕ → List ℕ → Type 0
 IsScriptText bytes text = (lines : List Line) × SpellsLines bytes lines × (text ≡ script_text lines)
 
--- the script of the lines that the bytes spell, or their refusal
+-- the answer for the bytes: the script of their lines, or their refusal
 abbrev pub OfBytes : List ℕ → Answer → Type 0
 OfBytes bytes answer = IsTextOr (IsScriptText bytes) (λ refusal. IsRefused bytes (Bad refusal)) answer
 
--- the script of the lines in the file of this name
+-- the answer for the file with this name: the script of its lines, or its refusal
 abbrev pub IsImport : Files → List ℕ → Answer → Type 0
 IsImport files model answer = GoesOn (file_within files model most_btor_bytes btor_too_long) OfBytes answer
 
--- ---- what a script stands for
+-- ---- the properties of the script
 
--- The script stands for the lines: it has a query for each bad line, and a trace meets it exactly where frames have the bad line true.
+-- The script is a translation of the lines: it has a query for each bad line, and a trace meets query j at step k exactly where
+-- frames 0 to k have bad line j true in the last.
 pub record StandsForLines (lines : List Line) (script : PlainScript) : Type 0 where
   pub queries : length script.check.queries ≡ length (operands is_bad lines)
   pub frames : (j k : ℕ) → j < length (operands is_bad lines) → HasFrames lines j k ↔ HasTrace script j k
 
--- the text spells a script, and each script that it spells stands for the lines
+-- the text spells a script, and each script that it spells is a translation of the lines
 pub record WritesScript (lines : List Line) (text : List ℕ) : Type 0 where
   pub there : (script : PlainScript) × SpellsText text script
   pub each : (script : PlainScript) → SpellsText text script → StandsForLines lines script
 
--- what is written for the lines of each text
+-- the script written for each text is correct
 abbrev pub ScriptsStand : Type 0
 ScriptsStand = (bytes : List ℕ) (lines : List Line) → SpellsLines bytes lines → WritesScript lines (script_text lines)
 
--- the text that was written stands for the lines that the file of this name spells
+-- the written text is correct for the lines that the file with this name spells
 pub record IsServed (files : Files) (name : List ℕ) (before now : Option (List ℕ)) : Type 0 where
   pub bytes : List ℕ
   pub there : file_at files name ≡ Some bytes

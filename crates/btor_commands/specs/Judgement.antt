@@ -1,4 +1,4 @@
--- What a judge of witnesses answers.
+-- The answer of the judge of witnesses.
 use Rattle.std.specs.Prelude.{◌≡◌, ◌⊎◌, ◌-◌, ℕ, List, length}
 use Rattle.text_core.specs.Outside.{Files}
 use Rattle.text_core.specs.Places.{start}
@@ -20,22 +20,22 @@ use Rattle.command_core.specs.declared.answer.Output.TheVariants.{Yes}
 use Rattle.btor_commands.specs.Limits.{most_btor_bytes, most_witness_bytes}
 use Rattle.command_core.specs.Reading.{GoesOn, file_within}
 
--- what is answered to a BTOR2 text that is too long, and to such a witness
+-- the answers for a BTOR2 text and for a witness that are too long
 abbrev pub btor_too_long : Answer
 btor_too_long = Refused (record { kind = B 9; place = start })
 
 abbrev pub witness_too_long : Answer
 witness_too_long = SecondRefused (record { kind = X 8; place = start })
 
--- the refusal of the first line of a BTOR2 text that can't follow
+-- the refusal of a BTOR2 text, at its first line that can't follow the lines before it
 abbrev pub IsLinesRefusal : List ℕ → Answer → Type 0
 IsLinesRefusal bytes answer = (refusal : Refusal) × btor.IsRefused bytes (Bad refusal) × (answer ≡ Refused refusal)
 
--- the refusal of the first line of a text that is none of a witness
+-- the refusal of a witness text, at its first line that no witness has there
 abbrev pub IsWitnessRefusal : List Line → List ℕ → Answer → Type 0
 IsWitnessRefusal lines text answer = (refusal : Refusal) × witness.IsRefused lines text (Bad refusal) × (answer ≡ SecondRefused refusal)
 
--- what is answered to a verdict: the bad line and the last step, or the step and the clause that fails
+-- the answer for a verdict: the bad line and the last step, or the step and the clause that fails
 abbrev pub verdict_answer : Witness → Verdict → Answer
 verdict_answer w verdict.Yes = Done (Yes w.bad (length w.frames - 1))
 verdict_answer w (verdict.No step clause) = No step clause
@@ -51,7 +51,7 @@ OfText lines text answer = ((w : Witness) × SpellsWitness lines text w × IsVer
 abbrev pub OfLines : Files → List ℕ → List Line → Answer → Type 0
 OfLines files second lines answer = GoesOn (file_within files second most_witness_bytes witness_too_long) (OfText lines) answer
 
--- the verdict on the witness in the second file, for the lines that the bytes spell, or the bytes' refusal
+-- the verdict on the witness in the second file, for the lines that the bytes spell, or the refusal of the bytes
 abbrev pub OfBytes : Files → List ℕ → List ℕ → Answer → Type 0
 OfBytes files second bytes answer = ((lines : List Line) × SpellsLines bytes lines × OfLines files second lines answer) ⊎ IsLinesRefusal bytes answer
 

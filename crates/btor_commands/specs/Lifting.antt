@@ -1,4 +1,4 @@
--- What a command answers that lifts a witness of a model's BTOR2 text.
+-- The answer of a command that lifts a witness for a model's BTOR2 text.
 use Rattle.std.specs.Prelude.{◌≡◌, ◌⊎◌, ℕ, List}
 use Rattle.text_core.specs.Outside.{Files}
 use Rattle.text_core.specs.declared.verdict.Verdict.{Verdict}
@@ -15,7 +15,7 @@ use Rattle.command_core.specs.Reading.{GoesOn, file_within}
 use Rattle.btor_commands.specs.Judgement.{IsWitnessRefusal, witness_too_long}
 use Rattle.btor_commands.specs.Limits.{most_witness_bytes}
 
--- what is answered to a verdict: what the witness is lifted to, or the step and the clause that fails
+-- the answer for a verdict: the text to which the witness is lifted, or the step and the clause that fails
 abbrev pub lift_answer : (Witness → List ℕ) → Witness → Verdict → Answer
 lift_answer lifted w verdict.Yes = Done (Text (lifted w))
 lift_answer lifted w (verdict.No step clause) = No step clause
@@ -23,11 +23,11 @@ lift_answer lifted w (verdict.No step clause) = No step clause
 abbrev pub IsLift : List Line → (Witness → List ℕ) → Witness → Answer → Type 0
 IsLift lines lifted w answer = (v : Verdict) × judged_btor lines w v × (answer ≡ lift_answer lifted w v)
 
--- what is answered to the witness that a text spells for the lines, or the text's refusal
+-- the answer for the witness that a text spells for the lines, or the text's refusal
 abbrev pub OfText : List Line → (Witness → List ℕ) → List ℕ → Answer → Type 0
 OfText lines lifted text answer = ((w : Witness) × SpellsWitness lines text w × IsLift lines lifted w answer) ⊎ IsWitnessRefusal lines text answer
 
--- what is answered to the witness in the second file, for the lines that a BTOR2 text spells
+-- the answer for the witness in the second file, for the lines that a BTOR2 text spells
 abbrev pub OfLines : Files → List ℕ → List ℕ → (Witness → List ℕ) → Answer → Type 0
 OfLines files second btor lifted answer =
     (lines : List Line) × SpellsLines btor lines × GoesOn (file_within files second most_witness_bytes witness_too_long) (OfText lines lifted) answer

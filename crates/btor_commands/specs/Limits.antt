@@ -1,4 +1,4 @@
--- The limits of what is read.
+-- The greatest sizes of the files that are read.
 use Rattle.std.specs.Prelude.{ℕ}
 
 -- the most bytes of a BTOR2 text

@@ -1,4 +1,4 @@
--- Which smaller text is written for a BTOR2 text, and what it keeps (BTOR2, CAV 2018).
+-- The smaller text written for a BTOR2 text, and what it preserves (BTOR2, CAV 2018).
 use Rattle.std.specs.Prelude.{◌≡◌, ℕ, List, Option, Some}
 use Rattle.text_core.specs.Outside.{Files, file_at, grown}
 use Rattle.text_core.specs.declared.end.End.TheVariants.{Bad}
@@ -22,28 +22,28 @@ pub record IsSmallerText (bytes text : List ℕ) : Type 0 where
   pub simplified : IsSimplified lines smaller
   pub printed_text : text ≡ printed smaller
 
--- the smaller text of the lines that the bytes spell, or their refusal
+-- the answer for the bytes: the smaller text of their lines, or their refusal
 abbrev pub OfBytes : List ℕ → Answer → Type 0
 OfBytes bytes answer = IsTextOr (IsSmallerText bytes) (λ refusal. IsRefused bytes (Bad refusal)) answer
 
--- the smaller text of the lines in the file of this name
+-- the answer for the file with this name: the smaller text of its lines, or its refusal
 abbrev pub IsSimplification : Files → List ℕ → Answer → Type 0
 IsSimplification files model answer = GoesOn (file_within files model most_btor_bytes btor_too_long) OfBytes answer
 
--- ---- what a smaller text keeps
+-- ---- what the smaller text preserves
 
--- the text spells one list of lines, which are in normal form, no more than the lines, and keep their words and witnesses
+-- the text spells one list of lines in normal form, at most as many as `lines`, with the same words and witnesses
 pub record WritesSmaller (lines : List Line) (text : List ℕ) : Type 0 where
   pub smaller : List Line
   pub spelled : SpellsLines text smaller
   pub only : (others : List Line) → SpellsLines text others → others ≡ smaller
   pub keeps : IsSmallerList lines smaller
 
--- what is written for the lines of each text
+-- the text written for each text preserves these
 abbrev pub SmallerTextsStand : Type 0
 SmallerTextsStand = (bytes : List ℕ) (lines smaller : List Line) → SpellsLines bytes lines → IsSimplified lines smaller → WritesSmaller lines (printed smaller)
 
--- the text that was written keeps what the lines have that the file of this name spells
+-- the written text preserves these for the lines that the file with this name spells
 pub record IsServed (files : Files) (name : List ℕ) (before now : Option (List ℕ)) : Type 0 where
   pub bytes : List ℕ
   pub there : file_at files name ≡ Some bytes
