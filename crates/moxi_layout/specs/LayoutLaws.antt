@@ -1,4 +1,4 @@
--- The frames of lines that lay a flat system out are the system's traces.
+-- For lines that lay a flat system out, frames represent the system's traces.
 use Rattle.std.specs.Prelude.{◌≡◌, ◌↔◌, ℕ, ◌+◌, ◌≤◌, List, [], ◌∷◌, length, slice_get, slice_index_or, Some}
 use Rattle.word_core.specs.Words.{BitVector}
 use Rattle.btor_tree.specs.declared.lines.Line.{Line}
@@ -14,7 +14,7 @@ use Rattle.moxi_flat.specs.FlatSystem.{PlainFlatSystem}
 use Rattle.moxi_lines.specs.TermLaws.{HaveCodes}
 use Rattle.moxi_layout.specs.Layout.{LaysOut, now_values}
 
--- a fact of the last element
+-- this holds of the last element
 abbrev pub AtLast : {X : Type 0} → (X → Type 0) → List X → Type 0
 AtLast P [] = ⊥
 AtLast P (x ∷ []) = P x
@@ -33,16 +33,16 @@ HasFrames lines j k = (rows : List (List BitVector)) × AreBadFrames lines j k r
 abbrev pub HasFlatTrace : PlainFlatSystem → Query → ℕ → Type 0
 HasFlatTrace f q k = (trace : Trace) × MeetsFlat f q k trace
 
--- the values that the rows of frames stand for: at step j those of frame j
+-- the trace that frames represent: at step j the values that the words of frame j code
 abbrev pub decoded_trace : PlainFlatSystem → List Line → List (List BitVector) → Trace
 decoded_trace f lines rows j = now_values f lines (slice_index_or rows j [])
 
--- frames from which the trace is decoded again: at steps 0 to k it has what they stand for
+-- frames from which the trace is decoded: it has their values at steps 0 to k
 pub record AreFramesOf (f : PlainFlatSystem) (lines : List Line) (j k : ℕ) (trace : Trace) (rows : List (List BitVector)) : Type 0 where
   pub frames : AreBadFrames lines j k rows
   pub decoded : (i v : ℕ) (s : Sort) → i ≤ k → slice_get (sorts_of f.variables) v ≡ Some s → decoded_trace f lines rows i v ≡ trace i v
 
--- The system is whole, and the lines lay it out.
+-- The system is well sorted, and the lines lay it out.
 pub record IsLaidOut (f : PlainFlatSystem) (lines : List Line) : Type 0 where
   pub sorted : IsSortedFlat f
   pub codes : HaveCodes f.scope.enumerations
@@ -51,17 +51,17 @@ pub record IsLaidOut (f : PlainFlatSystem) (lines : List Line) : Type 0 where
 
 -- ---- laws
 
--- what frames with a bad line of query j are decoded to is a trace that meets the query
+-- frames with the bad line of query j true in the last are decoded to a trace that meets the query
 abbrev pub FramesAreTraces : Type 0
 FramesAreTraces = (f : PlainFlatSystem) (lines : List Line) → IsLaidOut f lines → (j k : ℕ) (q : Query) → slice_get f.queries j ≡ Some q
     → (rows : List (List BitVector)) → AreBadFrames lines j k rows → MeetsFlat f q k (decoded_trace f lines rows)
 
--- each trace that meets query j has frames with its bad line, from which it is decoded again
+-- for each trace that meets query j there are frames with its bad line true in the last, from which the trace is decoded
 abbrev pub TracesAreFrames : Type 0
 TracesAreFrames = (f : PlainFlatSystem) (lines : List Line) → IsLaidOut f lines → (j k : ℕ) (q : Query) → slice_get f.queries j ≡ Some q
     → (trace : Trace) → MeetsFlat f q k trace → (rows : List (List BitVector)) × AreFramesOf f lines j k trace rows
 
--- both, for each query and each number of steps
+-- such frames exist exactly where such a trace exists, for each query and each number of steps
 abbrev pub TracesHaveFrames : Type 0
 TracesHaveFrames = (f : PlainFlatSystem) (lines : List Line) → IsLaidOut f lines → (j k : ℕ) (q : Query) → slice_get f.queries j ≡ Some q
     → HasFlatTrace f q k ↔ HasFrames lines j k
