@@ -1,4 +1,4 @@
--- The traces of a model's script that meet a query are the model's runs that break an invariant.
+-- The traces of a model's script that meet a query represent the model's runs that break an invariant.
 use Rattle.std.specs.Prelude.{◌≡◌, ◌<◌, ℕ, List, Some, length, map, slice_get}
 use Rattle.text_core.specs.declared.place.Place.{Place}
 use Rattle.smv_text.specs.declared.token.Token.{Token}
@@ -17,7 +17,7 @@ use Rattle.moxi_scripts.specs.Meeting.{MeetsQuery}
 use Rattle.smv_script.specs.Script.{coding_of, query_of, script_for}
 use Rattle.smv_script_laws.specs.Decoding.{run_of}
 
--- a run of so many transitions whose last state breaks the invariant of this number
+-- a run of k transitions whose last state breaks invariant j
 pub record BreaksAt (source : PlainSource) (j k : ℕ) (states labels : List Valuation) : Type 0 where
   pub counted : length labels ≡ k
   pub run : IsRun source states labels
@@ -27,20 +27,20 @@ pub record BreaksAt (source : PlainSource) (j k : ℕ) (states labels : List Val
 abbrev pub HasRun : PlainSource → ℕ → ℕ → Type 0
 HasRun source j k = (states : List Valuation) × (labels : List Valuation) × BreaksAt source j k states labels
 
--- how many invariants a model has, over all its instances
+-- the number of invariants of a model, over all its instances
 abbrev pub invariant_count : PlainSource → ℕ
 invariant_count source = length (invariants_in (instances_of source))
 
--- the run for which the first steps of a trace stand
+-- the run that the steps 0 to k of a trace represent
 abbrev pub decoded_run : PlainSource → Trace → ℕ → Run
 decoded_run source trace k = run_of (flat_smv source) (coding_of (flat_smv source) (width_of (flat_smv source))) trace k
 
--- a trace that meets the query of number j at step k stands for such a run
+-- a trace that meets query j at step k represents a run that breaks invariant j after k transitions
 abbrev pub TracesAreRuns : Type 0
 TracesAreRuns = (source : PlainSource) (end : Place) (text : List ℕ) (xs : List Token) → Lexes text xs → SpellsSource source end xs → (needed : ℕ) → IsAccepted source needed
     → (j k : ℕ) (trace : Trace) → MeetsQuery (script_for source) (query_of j) k trace → BreaksAt source j k (map given (decoded_run source trace k).states) (map given (decoded_run source trace k).labels)
 
--- and for each such run there is one
+-- each such run is represented by such a trace
 abbrev pub RunsHaveTraces : Type 0
 RunsHaveTraces = (source : PlainSource) (end : Place) (text : List ℕ) (xs : List Token) → Lexes text xs → SpellsSource source end xs → (needed : ℕ) → IsAccepted source needed
     → (j k : ℕ) (states labels : List Valuation) → BreaksAt source j k states labels → (trace : Trace) × MeetsQuery (script_for source) (query_of j) k trace
