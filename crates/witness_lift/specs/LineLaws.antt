@@ -1,4 +1,4 @@
--- What the lines of a model's script stand for, and how many they are (BTOR2, CAV 2018; the bounds are this translator's own).
+-- The lines of a model are its translation, and their number is bounded (BTOR2, CAV 2018; the bounds are this translator's own).
 use Rattle.std.specs.Prelude.{◌≡◌, ◌↔◌, ℕ, ◌+◌, ◌*◌, ◌<◌, ◌≤◌, List, length, None}
 use Rattle.text_core.specs.declared.place.Place.{Place}
 use Rattle.smv_text.specs.declared.token.Token.{Token}
@@ -21,7 +21,7 @@ use Rattle.moxi_lines.specs.Lines.{lines_of}
 use Rattle.moxi_layout.specs.LayoutLaws.{HasFrames, IsLaidOut}
 use Rattle.smv_script_laws.specs.RunLaws.{HasRun, invariant_count}
 
--- something of each model that a text spells, whose checks hold, and none of whose expressions is too high
+-- a property of each accepted model: a text spells it, its checks hold, and none of its expressions is too high
 abbrev pub OfAccepted : (PlainSource → Type 0) → Type 0
 OfAccepted P = (source : PlainSource) (end : Place) (text : List ℕ) (xs : List Token) → Lexes text xs → SpellsSource source end xs → (needed : ℕ) → IsAccepted source needed
     → first_high (of_modules source.modules) ≡ None → P source
@@ -30,12 +30,12 @@ OfAccepted P = (source : PlainSource) (end : Place) (text : List ℕ) (xs : List
 abbrev pub model_system : PlainSource → PlainFlatSystem
 model_system source = flat_of (script_for source)
 
--- and its lines
+-- the lines of that flat system
 abbrev pub model_lines : PlainSource → List Line
 model_lines source = lines_of (model_system source)
 
--- the lines stand for the model: as many bad lines as invariants, and for each invariant and each number of transitions there is
--- a run exactly where there are frames
+-- The lines are a translation of the model: they have a bad line for each invariant. For each invariant and each number of transitions
+-- there is a run that breaks the invariant exactly where there are frames with its bad line true in the last.
 pub record Translates (source : PlainSource) (lines : List Line) : Type 0 where
   pub bads : length (operands is_bad lines) ≡ invariant_count source
   pub frames : (j k : ℕ) → j < invariant_count source → HasRun source j k ↔ HasFrames lines j k
@@ -52,7 +52,7 @@ pub record AreLaidOut (source : PlainSource) (lines : List Line) : Type 0 where
 
 -- ---- laws
 
--- each symbol stands in a module's body
+-- there are at most as many symbols as the model's weight
 abbrev pub SymbolsByWeight : Type 0
 SymbolsByWeight = (source : PlainSource) (end : Place) (xs : List Token) → SpellsSource source end xs → length (symbols_of (instances_of source)) ≤ weight_of source
 
