@@ -1,5 +1,5 @@
 // The statements in one part of a frame.
-ghost use Rattle.std.specs.Prelude.{◌≡◌, ◌<◌, ◌≤◌, [], List, ℕ, length, IfOk, MatchResult, Ok, false};
+ghost use Rattle.std.specs.Prelude.{◌≡◌, ◌<◌, ◌≤◌, [], List, ℕ, length, IfOk, OnOk, MatchResult, Ok, false};
 ghost use Rattle.btor_witness.specs.Parts.{PartState, stating, is_stated};
 ghost use Rattle.btor_witness.specs.Held.{IsCleared, AreStatedAt, AreMarked};
 ghost use Rattle.btor_witness.specs.Answer.{Added};
@@ -8,7 +8,6 @@ use crate::ends::LineEnd;
 use crate::witness::{Stated, Stateds};
 use std::alloc::Global;
 use std::marker::Model;
-use std::mem;
 use text_core::kinds::witness;
 use text_core::{List, NoMemory};
 use word_core::Word;
@@ -75,14 +74,32 @@ impl Part {
         Ok(())
     }
 
-    /// Takes the statements so far, and leaves none.
-    pub fn take(&mut self, alloc: Global) -> Stateds
-        ensures stated { result ≡ self.old.stated }
-        ensures new { self.new ≡ record { widths = self.old.widths; stated = [] } }
+    /// Takes the statements so far, in a list without spare room, and leaves none.
+    pub fn take(&mut self, alloc: Global) -> Result<Stateds, NoMemory>
+        ensures widths { self.new.widths ≡ self.old.widths }
+        ensures stated { IfOk result (λ stated. stated ≡ self.old.stated) }
+        ensures none { OnOk result (self.new.stated ≡ []) }
     {
+        let exact = without_spare(alloc, &self.stated)?;
         clear(&mut self.marks, &self.stated);
-        mem::replace(&mut self.stated, Stateds::new(alloc))
+        self.stated = Stateds::new(alloc);
+        Ok(exact)
     }
+}
+
+// The same statements in a list without spare room. A witness has many frames, and a list that grew may be half empty.
+fn without_spare(alloc: Global, stated: &Stateds) -> Result<Stateds, NoMemory>
+    ensures { IfOk result (λ exact. exact ≡ stated.now) }
+{
+    let mut exact = Stateds::with_capacity(alloc, stated.len())?;
+    for i in 0..stated.len() {
+        let one = stated.at(i);
+        exact.push(Stated {
+            index: one.index,
+            value: one.value,
+        })?;
+    }
+    Ok(exact)
 }
 
 // Removes the marks of the stated lines.

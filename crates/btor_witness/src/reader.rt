@@ -195,8 +195,8 @@ impl Reader {
         ensures sizes { self.new.sizes ≡ self.old.sizes }
         ensures closed { OnOk result (self.new.reading ≡ record { phase = self.old.reading.phase; bad = self.old.reading.bad; frames = frames_of self.old.reading; states = []; inputs = [] }) }
     {
-        let states = self.states.take(alloc);
-        let inputs = self.inputs.take(alloc);
+        let states = self.states.take(alloc)?;
+        let inputs = self.inputs.take(alloc)?;
         match self.phase {
             Phase::States => self.frames.push(Frame { states, inputs }),
             Phase::Inputs => self.frames.push(Frame { states, inputs }),
