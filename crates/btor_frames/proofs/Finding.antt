@@ -1,5 +1,5 @@
 -- What is found in the lines.
-use Rattle.std.proofs.Common.{◌≡◌, ℕ, suc, ◌+◌, ◌<◌, ◌≤◌, Bool, true, false, cond, eqb, List, [], ◌∷◌, ◌++◌, length, take, get_or, set, Option, Some, None, refl, sym, ap, ◌∙◌, subst, arith, inl, inr}
+use Rattle.std.proofs.Common.{◌≡◌, ℕ, suc, ◌+◌, ◌≤◌, Bool, true, false, cond, eqb, List, [], ◌∷◌, ◌++◌, length, take, get_or, set, Option, Some, None, refl, sym, ap, ◌∙◌, subst, arith, inl, inr}
 use Rattle.std.specs.Prelude.{slice_get}
 use Rattle.std.specs.Option.{option_or}
 use Rattle.std.proofs.lemmas.Bool.{eq-eqb, ne_eqb, cases_eq}
@@ -10,8 +10,7 @@ use Rattle.btor_tree.specs.declared.lines.LineOp.{LineOp}
 use Rattle.btor_tree.specs.Fits.{AreEarlier, IsWellFormed, operands, state_value, value_for, value_in}
 use Rattle.btor_tree.proofs.Grows.{slice_get_inside, take_push}
 use Rattle.btor_tree.proofs.Paths.{operands_append, state_value_append}
-use Rattle.btor_frames.specs.Tables.{Found, IsFoundIn, values_of, line_operands, noted}
-use Rattle.btor_frames.specs.Steps.{value_kind}
+use Rattle.btor_frames.specs.Tables.{line_operands, noted}
 
 pub earlier_more : (n m : ℕ) (args : List Arg) → n ≤ m → AreEarlier n args → AreEarlier m args
 earlier_more n m [] h e = tt
@@ -81,10 +80,6 @@ values_step kind lines i l values new w g h e =
           ∙ sym (state_value_append kind (take i lines) (l ∷ []) s)
           ∙ sym (ap (λ ls. state_value kind ls s) (take_next lines i l g));
     }
-
-pub found_value : (begun : Bool) (lines : List Line) (found : Found) (i : ℕ) → IsFoundIn lines found → i < length lines → get_or (values_of begun found) i None ≡ state_value (value_kind begun) lines i
-found_value true lines found i h q = h.nexts.at i q
-found_value false lines found i h q = h.inits.at i q
 
 -- the operands with those of one more line
 pub operands_step : (kind : LineOp → Bool) (lines : List Line) (i : ℕ) (l : Line) → slice_get lines i ≡ Some l → operands kind (take i lines) ++ line_operands kind l ≡ operands kind (take (i + 1) lines)

@@ -5,3 +5,4 @@ pub mod Loop
 pub mod Unique
 pub mod Truths
 pub mod Stating
+pub mod NextWords

@@ -35,6 +35,10 @@ pub gives : (begun : Bool) (lines : List Line) (last inputs free : List BitVecto
 gives true lines last inputs free w f h = next_gives lines w last (handed_at lines inputs free) (f refl) (free_fits lines inputs free h)
 gives false lines last inputs free w f h = first_gives lines w (handed_at lines inputs free) (free_fits lines inputs free h)
 
+-- frame 0 has none before it
+pub no_last : (lines : List Line) → IsTrue false → IsFrame lines []
+no_last lines h = absurd (cc)
+
 -- the words so far are a frame of the lines so far
 pub frame_so_far : (begun : Bool) (lines : List Line) (last inputs free spare : List BitVector) (i : ℕ) → IsWellFormed lines → (IsTrue begun → IsFrame lines last) → HandedFit lines inputs free → i ≤ length lines → take i spare ≡ row_upto lines (giving begun lines last inputs free) i → IsFrame (take i lines) (take i spare)
 frame_so_far begun lines last inputs free spare i w f h le e =

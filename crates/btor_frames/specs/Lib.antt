@@ -1,4 +1,5 @@
-pub mod Tables
 pub mod Steps
+pub mod Sources
+pub mod Tables
 pub mod Held
 pub mod Judged

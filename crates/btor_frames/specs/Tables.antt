@@ -1,12 +1,15 @@
--- What lines give to states, and the arguments of bad and constraint lines, found once for all frames.
-use Rattle.std.specs.Prelude.{◌≡◌, ℕ, ◌<◌, Bool, true, false, List, [], ◌∷◌, length, get_or, set, Option, Some, None, if◌then◌else◌}
+-- What lines give to states, where words come from, and the arguments of bad and constraint lines, found once for all
+-- frames.
+use Rattle.std.specs.Prelude.{◌≡◌, ℕ, ◌<◌, Bool, List, [], ◌∷◌, length, get_or, set, Option, Some, None, if◌then◌else◌}
 use Rattle.std.specs.Option.{option_or}
 use Rattle.btor_tree.specs.declared.args.Arg.{Arg}
 use Rattle.btor_tree.specs.declared.lines.Line.{Line}
 use Rattle.btor_tree.specs.declared.lines.LineOp.{LineOp}
 use Rattle.btor_tree.specs.Fits.{is_init, is_next, is_bad, is_constraint, state_value, operands}
+use Rattle.btor_frames.specs.declared.sources.Source.{Source}
 use Rattle.btor_frames.specs.declared.tables.Role.{Role}
 use Rattle.btor_frames.specs.declared.tables.Role.TheVariants.{Init, Next, Bad, Constraint}
+use Rattle.btor_frames.specs.Sources.{HoldsSources}
 
 -- is a line of this kind of the role?
 abbrev pub has_role : Role → LineOp → Bool
@@ -15,10 +18,11 @@ has_role Next op = is_next op
 has_role Bad op = is_bad op
 has_role Constraint op = is_constraint op
 
--- the value that each line's place has from init and next lines, and the arguments of bad and constraint lines in order
+-- the value that each line's place has from init lines, where each line's word comes from in later frames, and the
+-- arguments of bad and constraint lines in order
 pub record Found : Type 0 where
   pub inits : List (Option Arg)
-  pub nexts : List (Option Arg)
+  pub sources : List Source
   pub bads : List Arg
   pub constraints : List Arg
 
@@ -34,14 +38,9 @@ HoldsNone n values = (length values ≡ n) × ((s : ℕ) → get_or values s Non
 -- found in these lines
 pub record IsFoundIn (lines : List Line) (found : Found) : Type 0 where
   pub inits : HoldsValues is_init lines found.inits
-  pub nexts : HoldsValues is_next lines found.nexts
+  pub sources : HoldsSources lines found.sources
   pub bads : found.bads ≡ operands is_bad lines
   pub constraints : found.constraints ≡ operands is_constraint lines
-
--- the values of frame 0, or those of later frames
-abbrev pub values_of : Bool → Found → List (Option Arg)
-values_of true found = found.nexts
-values_of false found = found.inits
 
 -- the line's arguments, where it is of the kind
 abbrev pub line_operands : (LineOp → Bool) → Line → List Arg

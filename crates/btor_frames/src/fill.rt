@@ -1,16 +1,16 @@
-// Fills one row of words, in the order of the lines.
-ghost use Rattle.std.specs.Prelude.{◌≡◌, ◌<◌, ◌≤◌, ◌+◌, ◌^◌, ℕ, Bool, true, false, if◌then◌else◌, List, length, take, Some, None, slice_get, slice_set, IfSome, IsTrue};
+// Computes words as their lines say, and fills the row of frame 0, in the order of the lines.
+ghost use Rattle.std.specs.Prelude.{◌≡◌, ◌<◌, ◌≤◌, ◌+◌, ◌^◌, ℕ, Bool, true, false, if◌then◌else◌, List, length, take, Some, None, slice_get, slice_set, IfSome};
 ghost use Rattle.word_core.specs.Words.{BitVector, IsWord};
 ghost use Rattle.word_core.specs.Table.{unary_of, binary_of, ite_of, slice_of, uext_of, sext_of, BinaryFits};
-ghost use Rattle.btor_tree.specs.Fits.{IsWellFormed, OnOne, OnTwo, OnThree, count_of, is_constant, is_input, is_state, kind_at, state_value};
+ghost use Rattle.btor_tree.specs.Fits.{IsWellFormed, OnOne, OnTwo, OnThree, count_of, is_constant, is_init, is_input, is_state, kind_at, state_value};
 ghost use Rattle.btor_tree.specs.Frame.{nothing, operand, init_operand, signed_word, word_at, read_or, IsFrame};
 ghost use Rattle.btor_tree.proofs.Words.{computed};
 ghost use Rattle.btor_tree.proofs.Rows.{row_upto};
 ghost use Rattle.btor_tree.proofs.Paths.{constant_at, pick, given_of};
 ghost use Rattle.btor_frames.specs.Tables.{IsFoundIn};
-ghost use Rattle.btor_frames.specs.Steps.{is_given, value_kind, value_word, handed_at, HandedFit};
+ghost use Rattle.btor_frames.specs.Steps.{handed_at, HandedFit};
 
-use crate::handed::{handed_word, with_input, with_state, word_of, word_or};
+use crate::handed::{handed_word, is_given, with_input, with_state, word_of, word_or};
 use crate::tables::Tables;
 use crate::words::Words;
 use btor_tree::{Arg, Args, Line, LineOp, Nodes};
@@ -78,30 +78,12 @@ fn init_operand(nodes: &Nodes, row: &Words, a: &Arg) -> Word
     signed_word(word, a.negated)
 }
 
-// The word of a state's init or next.
-#[inline(always)]
-fn value_word(nodes: &Nodes, begun: bool, last: &Words, row: &Words, a: &Arg) -> Word
-    requires well_formed { IsWellFormed nodes.now }
-    requires long { length row.now ≡ length nodes.now }
-    requires last_long { length last.now ≡ length nodes.now }
-    requires there { a.now.line < length nodes.now }
-    ensures { result ≡ value_word begun nodes.now last.now row.now a.now }
-{
-    if begun {
-        operand(last, a)
-    } else {
-        init_operand(nodes, row, a)
-    }
-}
-
-// The word of a state: its init or next where it has one, else the word given by the caller.
+// The word of a state in frame 0: its init where it has one, else the word given by the caller.
 #[inline(always)]
 fn state_word(
     nodes: &Nodes,
     tables: &Tables,
     i: usize,
-    begun: bool,
-    last: &Words,
     spare: &Words,
     inputs: &Words,
     free: &Words,
@@ -110,27 +92,24 @@ fn state_word(
 ) -> Word
     requires inside { i < length nodes.now }
     requires long { length spare.now ≡ length nodes.now }
-    requires last_long { length last.now ≡ length nodes.now }
     requires well_formed { IsWellFormed nodes.now }
     requires found { IsFoundIn nodes.now tables.now }
     requires input_is { input ≡ count_of is_input (take i nodes.now) }
     requires state_is { state ≡ count_of is_state (take i nodes.now) }
-    ensures { result ≡ read_or (state_value (value_kind begun) nodes.now i) (value_word begun nodes.now last.now (take i spare.now)) (handed_at nodes.now inputs.now free.now i) }
+    ensures { result ≡ read_or (state_value is_init nodes.now i) (init_operand nodes.now (take i spare.now)) (handed_at nodes.now inputs.now free.now i) }
 {
-    match tables.value(begun, i) {
+    match tables.init(i) {
         None => handed_word(nodes, i, inputs, free, input, state),
-        Some(a) => value_word(nodes, begun, last, spare, &a),
+        Some(a) => init_operand(nodes, spare, &a),
     }
 }
 
-// The word of an input or a state. It is not read at other lines.
+// The word of an input or a state in frame 0. It is not read at other lines.
 #[inline(always)]
 fn given_word(
     nodes: &Nodes,
     tables: &Tables,
     i: usize,
-    begun: bool,
-    last: &Words,
     spare: &Words,
     inputs: &Words,
     free: &Words,
@@ -139,18 +118,15 @@ fn given_word(
 ) -> Word
     requires inside { i < length nodes.now }
     requires long { length spare.now ≡ length nodes.now }
-    requires last_long { length last.now ≡ length nodes.now }
     requires well_formed { IsWellFormed nodes.now }
     requires found { IsFoundIn nodes.now tables.now }
     requires input_is { input ≡ count_of is_input (take i nodes.now) }
     requires state_is { state ≡ count_of is_state (take i nodes.now) }
-    ensures { IfSome (slice_get nodes.now i) (λ l. result ≡ pick l.op (state_value (value_kind begun) nodes.now i)
-        (value_word begun nodes.now last.now (take i spare.now)) (handed_at nodes.now inputs.now free.now i)) }
+    ensures { IfSome (slice_get nodes.now i) (λ l. result ≡ pick l.op (state_value is_init nodes.now i)
+        (init_operand nodes.now (take i spare.now)) (handed_at nodes.now inputs.now free.now i)) }
 {
     match nodes.at(i).op {
-        LineOp::State => state_word(
-            nodes, tables, i, begun, last, spare, inputs, free, input, state,
-        ),
+        LineOp::State => state_word(nodes, tables, i, spare, inputs, free, input, state),
         LineOp::Input => word_or(inputs, input),
         _ => handed_word(nodes, i, inputs, free, input, state),
     }
@@ -166,7 +142,8 @@ fn unary_word(op: Unary, args: &Args, row: &Words) -> Word
 }
 
 // The bitwise and of two words of one width.
-fn and_word(a: Word, b: Word) -> Word
+#[inline(always)]
+pub fn and_word(a: Word, b: Word) -> Word
     requires { BinaryFits Binary.And a.width b.width }
     ensures { result ≡ binary_of Binary.And a b }
 {
@@ -174,7 +151,8 @@ fn and_word(a: Word, b: Word) -> Word
 }
 
 // The bitwise or of two words of one width.
-fn or_word(a: Word, b: Word) -> Word
+#[inline(always)]
+pub fn or_word(a: Word, b: Word) -> Word
     requires { BinaryFits Binary.Or a.width b.width }
     ensures { result ≡ binary_of Binary.Or a b }
 {
@@ -182,7 +160,8 @@ fn or_word(a: Word, b: Word) -> Word
 }
 
 // One bit: whether the two words are the same number.
-fn eq_word(a: Word, b: Word) -> Word
+#[inline(always)]
+pub fn eq_word(a: Word, b: Word) -> Word
     ensures { result ≡ binary_of Binary.Eq a b }
 {
     word_of(1, u128::from(a.bits() == b.bits()))
@@ -267,7 +246,7 @@ fn sext_word(count: u32, args: &Args, row: &Words) -> Word
 // Sets the word of a line that is computed from the words of earlier lines. Each kind of line sets its own word, so
 // that no word is passed between functions.
 #[inline(always)]
-fn put_computed(nodes: &Nodes, i: usize, spare: &mut Words)
+pub fn put_computed(nodes: &Nodes, i: usize, spare: &mut Words)
     requires inside { i < length nodes.now }
     requires long { length spare.old ≡ length nodes.now }
     requires well_formed { IsWellFormed nodes.now }
@@ -300,13 +279,6 @@ fn put_computed(nodes: &Nodes, i: usize, spare: &mut Words)
     }
 }
 
-// Whether a line of this kind takes a given word.
-fn is_given(op: &LineOp) -> bool
-    ensures { result ≡ is_given op.now }
-{
-    matches!(op, LineOp::Input | LineOp::State)
-}
-
 // Sets the word of the line at index i, and counts inputs and states. A given word is looked up only where it is
 // needed.
 #[inline(always)]
@@ -315,8 +287,6 @@ fn put_word(
     tables: &Tables,
     i: usize,
     line: &Line,
-    begun: bool,
-    last: &Words,
     inputs: &Words,
     free: &Words,
     input: usize,
@@ -325,7 +295,6 @@ fn put_word(
 ) -> (usize, usize)
     requires inside { i < length nodes.now }
     requires long { length spare.old ≡ length nodes.now }
-    requires last_long { length last.now ≡ length nodes.now }
     requires well_formed { IsWellFormed nodes.now }
     requires found { IsFoundIn nodes.now tables.now }
     requires input_is { input ≡ count_of is_input (take i nodes.now) }
@@ -335,14 +304,12 @@ fn put_word(
     requires few_states { state < 2 ^ 63 }
     requires frame { IsFrame (take i nodes.now) (take i spare.old) }
     ensures word { IfSome (slice_get nodes.now i) (λ l. spare.new ≡ slice_set spare.old i (computed (take i nodes.now) (take i spare.old) l.sort l.op l.args
-        (given_of (state_value (value_kind begun) nodes.now) (value_word begun nodes.now last.now) (handed_at nodes.now inputs.now free.now) l.op i (take i spare.old)))) }
+        (given_of (state_value is_init nodes.now) (init_operand nodes.now) (handed_at nodes.now inputs.now free.now) l.op i (take i spare.old)))) }
     ensures next_input { result.0 ≡ input + (if is_input line.now.op then 1 else 0) }
     ensures next_state { result.1 ≡ state + (if is_state line.now.op then 1 else 0) }
 {
     if is_given(&line.op) {
-        let word = given_word(
-            nodes, tables, i, begun, last, spare, inputs, free, input, state,
-        );
+        let word = given_word(nodes, tables, i, spare, inputs, free, input, state);
         spare.set(i, word);
         (with_input(line, input), with_state(line, state))
     } else {
@@ -351,30 +318,20 @@ fn put_word(
     }
 }
 
-/// Fills a row of words: the frame after `last` where `begun` is true, else frame 0.
-pub fn fill(
-    nodes: &Nodes,
-    tables: &Tables,
-    begun: bool,
-    last: &Words,
-    inputs: &Words,
-    free: &Words,
-    spare: &mut Words,
-)
+/// Fills a row of words: frame 0.
+pub fn fill_first(nodes: &Nodes, tables: &Tables, inputs: &Words, free: &Words, spare: &mut Words)
     requires long { length spare.old ≡ length nodes.now }
-    requires last_long { length last.now ≡ length nodes.now }
-    requires last_frame { IsTrue begun → IsFrame nodes.now last.now }
     requires found { IsFoundIn nodes.now tables.now }
     requires handed { HandedFit nodes.now inputs.now free.now }
-    ensures { spare.new ≡ row_upto nodes.now (given_of (state_value (value_kind begun) nodes.now)
-        (value_word begun nodes.now last.now) (handed_at nodes.now inputs.now free.now)) (length nodes.now) }
+    ensures { spare.new ≡ row_upto nodes.now (given_of (state_value is_init nodes.now)
+        (init_operand nodes.now) (handed_at nodes.now inputs.now free.now)) (length nodes.now) }
 {
     let mut input = 0usize;
     let mut state = 0usize;
     for i in 0..nodes.len() {
         let line = nodes.at(i);
         let (next_input, next_state) = put_word(
-            nodes, tables, i, line, begun, last, inputs, free, input, state, spare,
+            nodes, tables, i, line, inputs, free, input, state, spare,
         );
         input = next_input;
         state = next_state;

@@ -5,9 +5,11 @@ ghost use Rattle.btor_tree.specs.Fits.{count_of, is_bad, is_constraint};
 ghost use Rattle.btor_tree.specs.Frame.{word_at, operand, true_word, ConstraintsHold, IsBad};
 ghost use Rattle.btor_frames.specs.Steps.{IsStep, HandedFit};
 ghost use Rattle.btor_frames.specs.Held.{Held, FramesFit};
+ghost use Rattle.btor_frames.specs.Sources.{HoldsNothing};
 
-use crate::fill::{fill, operand};
+use crate::fill::operand;
 use crate::handed::word_of;
+use crate::next::fill;
 use crate::tables::Tables;
 use crate::words::Words;
 use btor_tree::{Arg, Nodes};
@@ -31,12 +33,13 @@ pub struct Frames {
 impl Model for Frames {
     ghost use Rattle.std.specs.Prelude.{◌≡◌, length};
     ghost use Rattle.btor_frames.specs.Held.{Held};
+    ghost use Rattle.btor_frames.specs.Sources.{IsBlank};
 
     ghost Value = { Held };
 
     ghost view = { λ a. record { begun = a.begun; row = a.row; found = a.tables } };
 
-    ghost invariant = { λ a. length a.spare ≡ length a.row };
+    ghost invariant = { λ a. (length a.spare ≡ length a.row) × IsBlank a.tables.sources a.row × IsBlank a.tables.sources a.spare };
 }
 
 impl Frames {
@@ -140,7 +143,7 @@ fn is_true(row: &Words, a: &Arg) -> bool
 
 // A list of n zeros of one bit.
 fn zeros(alloc: Global, n: usize) -> Result<Words, NoMemory>
-    ensures { IfOk result (λ words. length words ≡ n) }
+    ensures { IfOk result (HoldsNothing n) }
 {
     let mut words = Words::new(alloc);
     for _i in 0..n {

@@ -3,7 +3,7 @@ ghost use Rattle.std.specs.Prelude.{◌≡◌, ◌<◌, ◌+◌, ◌^◌, ◌↔
 ghost use Rattle.word_core.specs.Words.{IsWord};
 ghost use Rattle.btor_tree.specs.Fits.{IsWellFormed, count_of, is_input, is_state};
 ghost use Rattle.btor_tree.specs.Frame.{word_at, GivenFits};
-ghost use Rattle.btor_frames.specs.Steps.{handed_at, HandedFit};
+ghost use Rattle.btor_frames.specs.Steps.{handed_at, is_given, HandedFit};
 
 use crate::words::Words;
 use btor_tree::{Line, LineOp, Nodes};
@@ -27,6 +27,13 @@ pub fn word_or(words: &Words, i: usize) -> Word
     } else {
         word_of(1, 0)
     }
+}
+
+// Whether a line of this kind takes a given word.
+pub fn is_given(op: &LineOp) -> bool
+    ensures { result ≡ is_given op.now }
+{
+    matches!(op, LineOp::Input | LineOp::State)
 }
 
 // The word that the caller gives for a line after `input` inputs and `state` states.

@@ -4,6 +4,8 @@
 mod fill;
 mod frames;
 mod handed;
+mod next;
+mod sources;
 mod tables;
 mod words;
 

@@ -1,8 +1,10 @@
-// The init and next of each state, and the arguments of bad and constraint lines, found once for all frames.
-ghost use Rattle.std.specs.Prelude.{◌≡◌, ◌<◌, ◌++◌, Bool, true, false, List, length, get_or, None, IfOk, OnOk, if◌then◌else◌};
+// The inits of states, the sources of words in later frames, and the arguments of bad and constraint lines, found once
+// for all frames.
+ghost use Rattle.std.specs.Prelude.{◌≡◌, ◌<◌, ◌++◌, Bool, true, false, List, length, get_or, slice_get, None, Some, IfOk, OnOk, if◌then◌else◌};
 ghost use Rattle.btor_tree.specs.Fits.{AreEarlier, IsWellFormed, operands};
-ghost use Rattle.btor_frames.specs.Tables.{has_role, HoldsNone, HoldsValues, IsFoundIn, values_of, line_operands, noted};
+ghost use Rattle.btor_frames.specs.Tables.{has_role, HoldsNone, HoldsValues, IsFoundIn, line_operands, noted};
 
+use crate::sources::{Source, sources};
 use btor_tree::{Arg, Args, Line, LineOp, Nodes};
 use std::alloc::Global;
 use std::marker::Model;
@@ -17,11 +19,12 @@ pub enum Role {
     Constraint,
 }
 
-/// The init and next of each state, by the state's index, and the arguments of bad and constraint lines in order.
+/// The init of each state, by the state's index, the source of each line's word in later frames, and the arguments of
+/// bad and constraint lines in order.
 #[derive(Drop)]
 pub struct Tables {
     inits: Vec<Option<Arg>>,
-    nexts: Vec<Option<Arg>>,
+    sources: List<Source>,
     bads: List<Arg>,
     constraints: List<Arg>,
 }
@@ -31,7 +34,7 @@ impl Model for Tables {
 
     ghost Value = { Found };
 
-    ghost view = { λ a. record { inits = a.inits.items; nexts = a.nexts.items; bads = a.bads; constraints = a.constraints } };
+    ghost view = { λ a. record { inits = a.inits.items; sources = a.sources; bads = a.bads; constraints = a.constraints } };
 }
 
 impl Tables {
@@ -39,22 +42,31 @@ impl Tables {
     pub fn of(alloc: Global, nodes: &Nodes) -> Result<Tables, NoMemory>
         ensures { IfOk result (λ tables. IsFoundIn nodes.now tables) }
     {
+        let nexts = values(alloc, nodes, Role::Next)?;
         Ok(Tables {
             inits: values(alloc, nodes, Role::Init)?,
-            nexts: values(alloc, nodes, Role::Next)?,
+            sources: sources(alloc, nodes, &nexts)?,
             bads: role_operands(alloc, nodes, Role::Bad)?,
             constraints: role_operands(alloc, nodes, Role::Constraint)?,
         })
     }
 
-    /// Returns the value of the state's next where `begun` is true, else the value of its init.
+    /// Returns the value of the init of the state at index `s`.
     ///
-    /// Returns None where the state at index `s` has no such line.
-    pub fn value(&self, begun: bool, s: usize) -> Option<Arg>
-        requires { s < length (values_of begun self.now) }
-        ensures { result ≡ get_or (values_of begun self.now) s None }
+    /// Returns None where the state has no init.
+    pub fn init(&self, s: usize) -> Option<Arg>
+        requires { s < length self.now.inits }
+        ensures { result ≡ get_or self.now.inits s None }
     {
-        if begun { self.nexts[s] } else { self.inits[s] }
+        self.inits[s]
+    }
+
+    /// Returns the source of the word of the line at index `i` in frames after frame 0.
+    pub fn source(&self, i: usize) -> Source
+        requires { i < length self.now.sources }
+        ensures { slice_get self.now.sources i ≡ Some result }
+    {
+        *self.sources.at(i)
     }
 
     /// Returns the arguments of the bad lines.

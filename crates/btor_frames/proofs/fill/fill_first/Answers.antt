@@ -1,13 +1,13 @@
-use Rattle.std.proofs.Common.{◌<◌, length, take, arith, ◌∙◌}
+use Rattle.std.proofs.Common.{◌<◌, false, [], length, take, arith, ◌∙◌}
 use Rattle.std.proofs.lemmas.List.{length-take}
 use Rattle.btor_tree.specs.Fits.{is_input, is_state}
 use Rattle.btor_tree.proofs.Grows.{count_short, lines_short}
-use Rattle.btor_frames.proofs.Loop.{frame_so_far, one_more, count_step}
-use Rattle.btor_frames.proofs.fill.fill.Goals as goal
+use Rattle.btor_frames.proofs.Loop.{frame_so_far, no_last, one_more, count_step}
+use Rattle.btor_frames.proofs.fill.fill_first.Goals as goal
 
 pub put_word-next_input-requires-clause-frame : goal.put_word-next_input-requires-clause-frame
 put_word-next_input-requires-clause-frame c =
-    frame_so_far c.args.begun c.args.nodes.now c.args.last.now c.args.inputs.now c.args.free.now c.loop-i.spare c.loop-i.i c.len-i-end.ensures.well_formed c.requires.last_frame c.requires.handed (omega arith) c.loop-i.invariant.filled
+    frame_so_far false c.args.nodes.now [] c.args.inputs.now c.args.free.now c.loop-i.spare c.loop-i.i c.len-i-end.ensures.well_formed (no_last c.args.nodes.now) c.requires.handed (omega arith) c.loop-i.invariant.filled
 
 pub put_word-next_input-requires-clause-few_inputs : goal.put_word-next_input-requires-clause-few_inputs
 put_word-next_input-requires-clause-few_inputs c =
@@ -21,7 +21,7 @@ pub loop-i-preserved : goal.loop-i-preserved
 loop-i-preserved c =
     let inv = c.loop-i.invariant in
     let inside : c.loop-i.i < length c.loop-i.spare = omega arith in
-    let put = one_more c.args.begun c.args.nodes.now c.args.last.now c.args.inputs.now c.args.free.now c.loop-i.spare c.put_word-next_input.new.spare c.loop-i.i c.at-line.result.now inside c.at-line.ensures inv.filled c.put_word-next_input.ensures.word in
+    let put = one_more false c.args.nodes.now [] c.args.inputs.now c.args.free.now c.loop-i.spare c.put_word-next_input.new.spare c.loop-i.i c.at-line.result.now inside c.at-line.ensures inv.filled c.put_word-next_input.ensures.word in
     record {
       long = put.0 ∙ inv.long;
       filled = put.1;
