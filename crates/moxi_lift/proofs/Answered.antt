@@ -92,6 +92,11 @@ pub lifted_answered : {E : Type 0} (s : ScopeState) (vs : List Variable) (lines 
 lifted_answered s vs lines w is law judged (Ok t) e = λ f a. is_lifted_trace f lines a.laid w is law judged t (e ∙ steps_lifted f s vs a.scope a.variables w)
 lifted_answered s vs lines w is law judged (Err x) e = tt
 
+-- what an accepted witness is lifted to, whichever way its steps are built
+pub all_lifted : (s : ScopeState) (vs : List Variable) (lines : List Line) (w : Witness) → IsWitness (sizes_of lines) w → LiftsMeetQueries → judged_btor lines w Yes
+    → (f : PlainFlatSystem) → AreOfSystem f s vs lines → IsLiftedTrace f lines w (lifted f w)
+all_lifted s vs lines w is law judged f a = is_lifted_trace f lines a.laid w is law judged (lifted f w) refl
+
 -- ---- of a chain
 
 module _ (f g : PlainFlatSystem) (is : g ≡ f) (s : ScopeState) (vs : List Variable) (lines : List Line) (scope : s ≡ g.scope) (variables : vs ≡ g.variables) (own : lines ≡ lines_of f) (laid : ∥ IsLaidOut g (lines_of g) ∥₁) where

@@ -4,8 +4,10 @@ ghost use Rattle.std.specs.List.{AllByRecursion};
 ghost use Rattle.text_core.specs.declared.verdict.Verdict.TheVariants.{Yes};
 ghost use Rattle.word_core.specs.Words.{BitVector};
 ghost use Rattle.btor_witness.specs.Judging.{judged_btor, stated_frames};
-ghost use Rattle.btor_witness.specs.Printing.{IsWitness};
+ghost use Rattle.btor_witness.specs.declared.witness.Frame.{Frame};
+ghost use Rattle.btor_witness.specs.Printing.{IsBelow, IsWitness};
 ghost use Rattle.btor_witness.specs.Sizes.{sizes_of};
+ghost use Rattle.moxi_terms.specs.Sorted.{AreSorts};
 ghost use Rattle.moxi_terms.specs.Sorts.{Fit};
 ghost use Rattle.moxi_terms.specs.Tree.{sorts_of};
 ghost use Rattle.moxi_flat.specs.FlatSystem.{PlainFlatSystem};
@@ -16,6 +18,7 @@ ghost use Rattle.moxi_lift.specs.Ends.{IsLiftEnd};
 
 use crate::chain::MoxiChain;
 use crate::frame_lift::lift_frames;
+use crate::laws::lifts_meet_queries;
 use crate::layout::are_laid_out;
 use btor_tree::Nodes;
 use btor_witness::{Witness, judge_btor};
@@ -44,6 +47,33 @@ impl From<NoMemory> for LiftEnd {
     }
 }
 
+/// Returns nothing where the judge accepts a witness of a flat system's lines, or else its rejection of the witness.
+///
+/// The trace to which an accepted witness is lifted meets the query of the witness's bad line. Its steps are those that
+/// `lifted_step` returns for the frames. The caller must pass the scope and the variables of a system, lines that lay it
+/// out, and a witness for them.
+pub fn accept_lines(
+    alloc: Global,
+    scope: &Scope,
+    variables: &Variables,
+    nodes: &Nodes,
+    witness: &Witness,
+) -> Result<(), LiftEnd>
+    requires system { (f : PlainFlatSystem) × AreOfSystem f scope.now variables.now nodes.now }
+    requires witness { IsWitness (sizes_of nodes.now) witness.now }
+    ensures accepted { IfOk result (λ _. judged_btor nodes.now witness.now Yes) }
+    ensures lifted { IfOk result (λ _. (f : PlainFlatSystem) → AreOfSystem f scope.now variables.now nodes.now → IsLiftedTrace f nodes.now witness.now (lifted f witness.now)) }
+    ensures sorts { IfOk result (λ _. AreSorts scope.now.enumerations (sorts_of variables.now)) }
+    ensures inputs { IfOk result (λ _. AllByRecursion (λ (f : Frame). AllByRecursion (IsBelow (length variables.now)) f.inputs) witness.now.frames) }
+    ensures refused { IfErr result (IsLiftEnd nodes.now witness.now) }
+{
+    lifts_meet_queries();
+    match judge_btor(alloc, nodes, witness)? {
+        Verdict::Yes => Ok(()),
+        Verdict::No(step, clause) => Err(LiftEnd::No(step, clause)),
+    }
+}
+
 /// Lifts a witness of a flat system's lines to a trace, or returns the judge's rejection of the witness.
 ///
 /// The trace meets the query of the witness's bad line. The caller must pass the scope and the variables of a system, lines
@@ -60,10 +90,8 @@ pub fn lift_lines(
     ensures lifted { IfOk result (λ trace. (f : PlainFlatSystem) → AreOfSystem f scope.now variables.now nodes.now → IsLiftedTrace f nodes.now witness.now trace) }
     ensures refused { IfErr result (IsLiftEnd nodes.now witness.now) }
 {
-    match judge_btor(alloc, nodes, witness)? {
-        Verdict::Yes => Ok(lift_frames(alloc, scope, variables, nodes, witness)?),
-        Verdict::No(step, clause) => Err(LiftEnd::No(step, clause)),
-    }
+    accept_lines(alloc, scope, variables, nodes, witness)?;
+    Ok(lift_frames(alloc, scope, variables, nodes, witness)?)
 }
 
 /// Lifts a witness of the chain's lines to a trace of the script's flat system (MoXI, SPIN 2024; BTOR2, CAV 2018).

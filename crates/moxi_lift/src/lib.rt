@@ -11,6 +11,7 @@ mod layout;
 mod step;
 
 pub use chain::{MoxiChain, MoxiEnd};
-pub use chain_lift::{LiftEnd, lift_lines, lift_moxi};
+pub use chain_lift::{LiftEnd, accept_lines, lift_lines, lift_moxi};
 pub use frame_lift::lift_frames;
 pub use laws::{lifts_are_decoded, lifts_meet_queries};
+pub use step::lifted_step;

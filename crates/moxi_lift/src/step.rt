@@ -82,7 +82,10 @@ fn value_of(scope: &Scope, sort: Sort, stated: Option<Word>) -> Result<Datum, No
     }
 }
 
-/// Returns the values of the variables in a frame: variable v has the value that the word of input v encodes.
+/// Returns the values of the variables in a frame: variable v has the value that the word of input v encodes (MoXI, SPIN
+/// 2024).
+///
+/// An input that is not stated is zero.
 pub fn lifted_step(
     alloc: Global,
     scope: &Scope,

@@ -54,3 +54,10 @@ given_here symbols m d = record { name = m.name; value = value_of symbols m.type
 
 abbrev pub read_of : Part → FlatModel → List Datum → List Given
 read_of part f env = decoded_from f.symbols (coding_of (flat_plain f) f.width).place (picks part) (at env) 0 (flat_plain f).items
+
+-- the state of a step, and the label of the transition to the next one
+abbrev pub state_of : FlatModel → List Datum → List Given
+state_of f env = read_of State f env
+
+abbrev pub label_of : FlatModel → List Datum → List Given
+label_of f env = read_of Label f env

@@ -6,5 +6,5 @@ mod lift;
 mod script;
 
 pub use flat_script::{to_moxi, to_single};
-pub use lift::lift_states;
+pub use lift::{count_inputs, lift_label, lift_state, lift_states};
 pub use script::SingleScript;

@@ -9,7 +9,7 @@ ghost use Rattle.moxi_terms.specs.Sorts.{IsOf};
 ghost use Rattle.smv_script.specs.Codes.{sort_of, value_of};
 ghost use Rattle.smv_script.specs.Script.{coding_of, group_start, symbol_sort};
 ghost use Rattle.smv_script_laws.specs.Decoding.{run_of};
-ghost use Rattle.smv_to_moxi.specs.Lifting.{IsStepOf, IsTraceOf, trace_of, picks, group_in, inputs_in, read_of, given_here};
+ghost use Rattle.smv_to_moxi.specs.Lifting.{IsStepOf, IsTraceOf, trace_of, picks, group_in, inputs_in, read_of, given_here, state_of, label_of};
 
 use moxi_scripts::MoxiTrace;
 use moxi_terms::{Datum, Env};
@@ -131,7 +131,8 @@ fn read_all(
     Ok(states)
 }
 
-fn count_inputs(items: &[FlatItem]) -> usize
+/// Returns the number of inputs among the items of a flat form.
+pub fn count_inputs(items: &[FlatItem]) -> usize
     ensures { result ≡ length (inputs_in items.now) }
 {
     let mut count = 0;
@@ -141,6 +142,34 @@ fn count_inputs(items: &[FlatItem]) -> usize
         }
     }
     count
+}
+
+/// Returns the state that a step of the system of the flat form's script encodes (MoXI, SPIN 2024).
+///
+/// `inputs` is the number of inputs of the flat form, which stand first in a step. `room` is the expected number of
+/// values.
+pub fn lift_state(
+    alloc: Global,
+    flat: &Flat,
+    inputs: usize,
+    room: usize,
+    env: &[Datum],
+) -> Result<State, NoMemory>
+    requires step { IsStepOf flat.now env.now }
+    requires inputs { inputs ≡ length (inputs_in flat.now.items) }
+    ensures { IfOk result (λ state. state ≡ state_of flat.now env.now) }
+{
+    read(alloc, flat, Part::State, inputs, room, env)
+}
+
+/// Returns the label that a step of the system of the flat form's script encodes (MoXI, SPIN 2024).
+///
+/// It is that of the transition to the next step. `room` is the expected number of values.
+pub fn lift_label(alloc: Global, flat: &Flat, room: usize, env: &[Datum]) -> Result<State, NoMemory>
+    requires { IsStepOf flat.now env.now }
+    ensures { IfOk result (λ label. label ≡ label_of flat.now env.now) }
+{
+    read(alloc, flat, Part::Label, 0, room, env)
 }
 
 /// Returns the run that a trace of the system of the flat form's script encodes (MoXI, SPIN 2024).

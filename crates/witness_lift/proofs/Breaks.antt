@@ -63,5 +63,5 @@ breaks_last law f w envs l source m =
     (subst (λ (run : Run). BreaksIn source w.bad (length envs - 1) run) (sym (run_is source f m envs))
     (law source m.needed m.read m.accepted w.bad envs (subst (λ g. MeetsQueryOf g w.bad envs) (system_is source f m) h))))
 
-pub breaks_answered : TracesBreakInvariants → (f g : FlatModel) → f ≡ g → (w : Witness) (envs : List (List Datum)) (run : Run) → IsLiftedIn g w envs → run ≡ run_in f envs → BreaksLast g w run
-breaks_answered law f g e w envs run l r = subst (BreaksLast g w) (sym (r ∙ ap (λ (x : FlatModel). run_in x envs) e)) (breaks_last law g w envs l)
+pub breaks_answered : TracesBreakInvariants → (f : FlatModel) (w : Witness) (envs : List (List Datum)) (run : Run) → IsLiftedIn f w envs → run ≡ run_in f envs → BreaksLast f w run
+breaks_answered law f w envs run l r = subst (BreaksLast f w) (sym r) (breaks_last law f w envs l)

@@ -3,3 +3,4 @@ pub mod Models
 pub mod Frames
 pub mod Lifts
 pub mod Breaks
+pub mod Runs

@@ -1,12 +1,13 @@
 -- What is known of a model's script and of the trace to which a witness is lifted.
-use Rattle.std.proofs.Common.{◌≡◌, ℕ, List, None, Result, Ok, Err, refl, sym, ap, ◌∙◌, subst}
+use Rattle.std.proofs.Common.{◌≡◌, ℕ, List, length, None, Result, Ok, Err, refl, sym, ap, ◌∙◌, subst}
 use Rattle.std.specs.Prelude.{IfErr, IfOk, IsErrAnd}
 use Rattle.std.specs.List.{AllByRecursion}
 use Rattle.std.proofs.Math.Logic.{∥∥₁_map}
 use Rattle.std.proofs.lemmas.List.{append-nil}
 use Rattle.btor_tree.specs.declared.lines.Line.{Line}
+use Rattle.btor_witness.specs.declared.witness.Frame.{Frame}
 use Rattle.btor_witness.specs.declared.witness.Witness.{Witness}
-use Rattle.smv_meaning.specs.declared.value.Run.{Run}
+use Rattle.btor_witness.specs.Printing.{IsBelow}
 use Rattle.smv_flat.specs.FlatForms.{PlainFlat, flat_smv}
 use Rattle.smv_flatten.specs.FlatModel.{FlatModel, IsOfModel, flat_plain}
 use Rattle.smv_script.specs.Script.{script_for, script_of, symbol_sort, system_of}
@@ -15,6 +16,7 @@ use Rattle.smv_to_moxi.specs.Assembling.{script_with}
 use Rattle.smv_to_moxi.specs.Lifting.{IsTraceOf}
 use Rattle.moxi_terms.specs.declared.data.Datum.{Datum}
 use Rattle.moxi_terms.specs.declared.term.Variable.{Variable}
+use Rattle.moxi_terms.specs.Sorted.{AreSorts}
 use Rattle.moxi_terms.specs.Sorts.{Fit}
 use Rattle.moxi_terms.specs.Tree.{sorts_of}
 use Rattle.moxi_terms.specs.View.{ScopeState}
@@ -27,9 +29,10 @@ use Rattle.moxi_lines.specs.Lines.{lines_of}
 use Rattle.moxi_layout.specs.LayoutLaws.{IsLaidOut}
 use Rattle.moxi_lift.specs.Ends.{IsLiftEnd}
 use Rattle.moxi_lift.specs.Laws.{AreOfSystem, IsLiftedTrace}
+use Rattle.moxi_lift.specs.Lifted.{lifted}
 use Rattle.moxi_lift.specs.declared.chain_lift.LiftEnd.{LiftEnd}
 use Rattle.witness_lift.specs.LineLaws.{ModelLinesAreLaidOut, ModelsHaveFlatSystems}
-use Rattle.witness_lift.specs.Lifting.{AreOfFlat, lifted_run, lines_in, run_in, system_in}
+use Rattle.witness_lift.specs.Lifting.{AreOfFlat, lines_in, system_in}
 
 -- ---- scripts
 
@@ -89,20 +92,26 @@ own_variables f = append-nil (variables_in (system_of (flat_plain f) f.width))
 abbrev pub IsLiftedIn : FlatModel → Witness → List (List Datum) → Type 0
 IsLiftedIn f w envs = IsLiftedTrace (system_in f) (lines_in f) w envs
 
-pub lifted_answered : {E : Type 0} (f : FlatModel) (s : ScopeState) (vs : List Variable) (lines : List Line) → s ≡ (system_in f).scope → vs ≡ (system_in f).variables → lines ≡ lines_in f
-    → ∥ IsLaidOut (system_in f) (lines_in f) ∥₁ → (w : Witness) (r : Result (List (List Datum)) E) → IfOk r (λ envs. (g : PlainFlatSystem) → AreOfSystem g s vs lines → IsLiftedTrace g lines w envs)
-    → IfOk r (IsLiftedIn f w)
-lifted_answered f s vs lines a b e laid w (Ok envs) l = subst (λ (ls : List Line). IsLiftedTrace (system_in f) ls w envs) e (l (system_in f) (of_flat f s vs lines a b e laid))
+pub lifted_answered : {T E : Type 0} (f : FlatModel) (s : ScopeState) (vs : List Variable) (lines : List Line) → s ≡ (system_in f).scope → vs ≡ (system_in f).variables → lines ≡ lines_in f
+    → ∥ IsLaidOut (system_in f) (lines_in f) ∥₁ → (w : Witness) (r : Result T E) → IfOk r (λ _. (g : PlainFlatSystem) → AreOfSystem g s vs lines → IsLiftedTrace g lines w (lifted g w))
+    → IfOk r (λ _. IsLiftedIn f w (lifted (system_in f) w))
+lifted_answered f s vs lines a b e laid w (Ok x) l = subst (λ (ls : List Line). IsLiftedTrace (system_in f) ls w (lifted (system_in f) w)) e (l (system_in f) (of_flat f s vs lines a b e laid))
 lifted_answered f s vs lines a b e laid w (Err x) l = tt
 
-pub is_trace : (f g : FlatModel) → f ≡ g → (w : Witness) (envs : List (List Datum)) → IsLiftedIn g w envs → IsTraceOf f envs
-is_trace f g e w envs l = subst (λ (x : FlatModel). IsTraceOf x envs) (sym e) (record {
-  some = l.some;
-  steps = subst (λ (vs : List Variable). AllByRecursion (Fit (symbol_sort g.symbols) (sorts_of vs)) envs) (own_variables g) l.fits;
-})
+pub sorts_answered : (f : FlatModel) (s : ScopeState) (vs : List Variable) → s ≡ (system_in f).scope → vs ≡ (system_in f).variables → AreSorts s.enumerations (sorts_of vs)
+    → AreSorts (system_in f).scope.enumerations (sorts_of (system_in f).variables)
+sorts_answered f s vs a b h =
+    subst (λ (z : ScopeState). AreSorts z.enumerations (sorts_of (system_in f).variables)) a (subst (λ (zs : List Variable). AreSorts s.enumerations (sorts_of zs)) b h)
 
-pub run_answered : (f g : FlatModel) → f ≡ g → (w : Witness) (envs : List (List Datum)) (run : Run) → IsLiftedIn g w envs → run ≡ run_in f envs → run ≡ lifted_run g w
-run_answered f g e w envs run l r = r ∙ ap (λ (x : FlatModel). run_in x envs) e ∙ ap (run_in g) l.exact
+pub inputs_answered : (f : FlatModel) (vs : List Variable) → vs ≡ (system_in f).variables → (w : Witness) → AllByRecursion (λ (x : Frame). AllByRecursion (IsBelow (length vs)) x.inputs) w.frames
+    → AllByRecursion (λ (x : Frame). AllByRecursion (IsBelow (length (system_in f).variables)) x.inputs) w.frames
+inputs_answered f vs b w h = subst (λ (zs : List Variable). AllByRecursion (λ (x : Frame). AllByRecursion (IsBelow (length zs)) x.inputs) w.frames) b h
+
+pub is_trace : (f : FlatModel) (w : Witness) (envs : List (List Datum)) → IsLiftedIn f w envs → IsTraceOf f envs
+is_trace f w envs l = record {
+  some = l.some;
+  steps = subst (λ (vs : List Variable). AllByRecursion (Fit (symbol_sort f.symbols) (sorts_of vs)) envs) (own_variables f) l.fits;
+}
 
 refused_so : {T : Type 0} (P : LiftEnd → Type 0) (result : Result T LiftEnd) (why : LiftEnd) → IsErrAnd result (λ e. e ≡ why) → P why → IfErr result P
 refused_so P (Ok x) why h p = tt

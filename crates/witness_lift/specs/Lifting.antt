@@ -1,6 +1,7 @@
 -- What a witness of a model's lines is lifted to.
 use Rattle.std.specs.Prelude.{◌≡◌, ◌-◌, List, length}
 use Rattle.btor_tree.specs.declared.lines.Line.{Line}
+use Rattle.btor_witness.specs.declared.witness.Stated.{Stated}
 use Rattle.btor_witness.specs.declared.witness.Witness.{Witness}
 use Rattle.smv_meaning.specs.declared.value.Run.{Run}
 use Rattle.smv_flatten.specs.FlatModel.{FlatModel, flat_plain}
@@ -12,7 +13,7 @@ use Rattle.moxi_terms.specs.View.{ScopeState}
 use Rattle.moxi_flat.specs.FlatSystem.{PlainFlatSystem, flat_of}
 use Rattle.moxi_lines.specs.Lines.{lines_of}
 use Rattle.moxi_lift.specs.Laws.{trace_of}
-use Rattle.moxi_lift.specs.Lifted.{lifted}
+use Rattle.moxi_lift.specs.Lifted.{lifted, lifted_step}
 
 -- the flat system of a flat form's script
 abbrev pub system_in : FlatModel → PlainFlatSystem
@@ -21,6 +22,10 @@ system_in f = flat_of (script_of (flat_plain f) f.width)
 -- and its lines
 abbrev pub lines_in : FlatModel → List Line
 lines_in f = lines_of (system_in f)
+
+-- the step of a frame that states these words of inputs
+abbrev pub step_in : FlatModel → List Stated → List Datum
+step_in f stated = lifted_step (system_in f).scope.enumerations (system_in f).variables stated
 
 -- the run for which a list of steps stands, all of them but for the inputs of the last
 abbrev pub run_in : FlatModel → List (List Datum) → Run
