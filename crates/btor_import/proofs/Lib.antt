@@ -1,4 +1,5 @@
 pub mod Lists
+pub mod Widths
 pub mod Steps
 pub mod Numbering
 pub mod Scripts

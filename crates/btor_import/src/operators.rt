@@ -1,5 +1,6 @@
 // Applications of MoXI's operators.
 ghost use Rattle.std.specs.Prelude.{◌≡◌, ◌^◌, ◌-◌, IfOk, map};
+ghost use Rattle.word_core.specs.Words.{IsWord};
 ghost use Rattle.moxi_terms.specs.Tree.{apply};
 ghost use Rattle.moxi_terms.specs.View.{plain};
 ghost use Rattle.btor_import.specs.Operators.{choice_term, equal_term, falsity_term, is_one, not_term, one, truth_term, two, word_term, words_term};
@@ -54,39 +55,40 @@ pub(crate) fn equal(alloc: Global, a: Term, b: Term) -> Result<Term, NoMemory>
     apply_two(alloc, TermOp::Equal, a, b)
 }
 
-// Returns the word of this width and number. Well-formed lines need only words that exist, so this fails for none
-// of them.
-fn word(width: u32, bits: u128) -> Result<Word, NoMemory>
-    ensures { IfOk result (λ w. w ≡ record { width = width; bits = bits }) }
+// Returns the word of this width and number.
+fn word(width: u32, bits: u128) -> Word
+    requires { IsWord (record { width = width; bits = bits }) }
+    ensures { result ≡ record { width = width; bits = bits } }
 {
     match Word::of(width, bits) {
-        Some(w) => Ok(w),
-        None => Err(NoMemory),
+        Some(w) => w,
+        None => unreachable!(),
     }
 }
 
 /// Builds a word of this width.
-pub(crate) fn word_term(width: u32, bits: u128) -> Result<Term, NoMemory>
-    ensures { IfOk result (λ t. plain t ≡ word_term width bits) }
+pub(crate) fn word_term(width: u32, bits: u128) -> Term
+    requires { IsWord (record { width = width; bits = bits }) }
+    ensures { plain result ≡ word_term width bits }
 {
-    let w = word(width, bits)?;
-    Ok(Term::Constant(Datum::Bits(w)))
+    Term::Constant(Datum::Bits(word(width, bits)))
 }
 
 /// Builds the word of this width whose bits are all 1.
-pub(crate) fn ones_term(width: u32) -> Result<Term, NoMemory>
-    ensures { IfOk result (λ t. plain t ≡ word_term width (2 ^ width - 1)) }
+pub(crate) fn ones_term(width: u32) -> Term
+    requires { IsWord (record { width = width; bits = 0 }) }
+    ensures { plain result ≡ word_term width (2 ^ width - 1) }
 {
-    let zeros = word(width, 0)?;
-    Ok(Term::Constant(Datum::Bits(unary(Unary::Not, zeros))))
+    let zeros = word(width, 0);
+    Term::Constant(Datum::Bits(unary(Unary::Not, zeros)))
 }
 
 /// Builds one bit that is 1 where the formula is true.
 pub(crate) fn truth_term(alloc: Global, q: Term) -> Result<Term, NoMemory>
     ensures { IfOk result (λ t. plain t ≡ truth_term (plain q)) }
 {
-    let one = word_term(1, 1)?;
-    let zero = word_term(1, 0)?;
+    let one = word_term(1, 1);
+    let zero = word_term(1, 0);
     choice(alloc, q, one, zero)
 }
 
@@ -94,8 +96,8 @@ pub(crate) fn truth_term(alloc: Global, q: Term) -> Result<Term, NoMemory>
 pub(crate) fn falsity_term(alloc: Global, q: Term) -> Result<Term, NoMemory>
     ensures { IfOk result (λ t. plain t ≡ falsity_term (plain q)) }
 {
-    let zero = word_term(1, 0)?;
-    let one = word_term(1, 1)?;
+    let zero = word_term(1, 0);
+    let one = word_term(1, 1);
     choice(alloc, q, zero, one)
 }
 
@@ -103,7 +105,7 @@ pub(crate) fn falsity_term(alloc: Global, q: Term) -> Result<Term, NoMemory>
 pub(crate) fn is_one(alloc: Global, a: Term) -> Result<Term, NoMemory>
     ensures { IfOk result (λ t. plain t ≡ is_one (plain a)) }
 {
-    let one = word_term(1, 1)?;
+    let one = word_term(1, 1);
     equal(alloc, a, one)
 }
 

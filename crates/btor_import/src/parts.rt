@@ -1,9 +1,10 @@
 // The formulas of a system, with the parts that lines give to them.
-ghost use Rattle.std.specs.Prelude.{◌≡◌, ◌++◌, ◌∷◌, [], IfOk, OnOk, map};
+ghost use Rattle.std.specs.Prelude.{◌≡◌, ◌++◌, ◌∷◌, [], IfOk, OnOk, Some, map, slice_get};
 ghost use Rattle.moxi_terms.specs.View.{plain};
-ghost use Rattle.btor_tree.specs.Fits.{is_bad, is_constraint, is_init, is_next};
+ghost use Rattle.btor_tree.specs.Fits.{IsWellFormed, is_bad, is_constraint, is_init, is_next, sort_at, width_at};
 ghost use Rattle.btor_import.specs.Assembling.{number_at, part_of};
 ghost use Rattle.btor_import.specs.Operators.{argument, is_one, operand_term};
+ghost use Rattle.btor_import.specs.Widths.{HasOperandWidth, IsWidth};
 ghost use Rattle.btor_import.specs.Script.{equation_term, formula_of, init_part, inv_part, parts_from, trans_part, value_part};
 
 use crate::numbers::{is_local, number_at};
@@ -79,6 +80,8 @@ fn equation(
     place: usize,
     line: &Line,
 ) -> Result<Term, NoMemory>
+    requires sort { IsWidth (sort_at nodes.now line.now.sort) }
+    requires operand { HasOperandWidth (width_at nodes.now) line.now.op line.now.args }
     ensures { IfOk result (λ t. plain t ≡ equation_term (number_at numbers.now) nodes.now place line.now) }
 {
     let value = line_term(alloc, nodes, numbers, line)?;
@@ -112,6 +115,8 @@ fn add_inv(
     line: &Line,
     all: &mut Terms,
 ) -> Result<(), NoMemory>
+    requires well_formed { IsWellFormed nodes.now }
+    requires there { slice_get nodes.now place ≡ Some line.now }
     ensures { OnOk result (map plain all.new.items ≡ map plain all.old.items ++ inv_part nodes.now (number_at numbers.now) place line.now) }
 {
     if is_local(&line.op) {
@@ -167,6 +172,8 @@ fn add_part(
     line: &Line,
     all: &mut Terms,
 ) -> Result<(), NoMemory>
+    requires well_formed { IsWellFormed nodes.now }
+    requires there { slice_get nodes.now place ≡ Some line.now }
     ensures { OnOk result (map plain all.new.items ≡ map plain all.old.items ++ part_of part (number_at numbers.now) nodes.now place line.now) }
 {
     match part {

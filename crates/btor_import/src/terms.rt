@@ -4,6 +4,8 @@ ghost use Rattle.moxi_terms.specs.Tree.{apply, constant};
 ghost use Rattle.moxi_terms.specs.View.{plain};
 ghost use Rattle.btor_tree.specs.Fits.{sort_at, width_at};
 ghost use Rattle.btor_tree.specs.Frame.{constant_word};
+ghost use Rattle.word_core.specs.Words.{IsWord};
+ghost use Rattle.btor_import.specs.Widths.{HasOperandWidth, IsWidth};
 ghost use Rattle.btor_import.specs.Assembling.{number_at};
 ghost use Rattle.btor_import.specs.Operators.{argument, binary_term, bits_from, choice_term, falsity_term, equal_term, is_one, line_term, not_term, one, operand_term, parity_term, truth_term, unary_term, word_term, words_term};
 
@@ -68,31 +70,35 @@ fn parity(alloc: Global, width: u32, numbers: &[u32], a: Arg) -> Result<Term, No
 
 // An operator on a term and a word of this width.
 fn with_word(alloc: Global, op: Binary, a: Term, width: u32, bits: u128) -> Result<Term, NoMemory>
+    requires { IsWord (record { width = width; bits = bits }) }
     ensures { IfOk result (λ t. plain t ≡ words_term op (plain a) (word_term width bits)) }
 {
-    let b = word_term(width, bits)?;
+    let b = word_term(width, bits);
     apply_two(alloc, TermOp::BvBinary(op), a, b)
 }
 
 // One bit: whether all bits of a term of this width are 1.
 fn all_ones(alloc: Global, a: Term, width: u32) -> Result<Term, NoMemory>
+    requires { IsWord (record { width = width; bits = 0 }) }
     ensures { IfOk result (λ t. plain t ≡ truth_term (equal_term (plain a) (word_term width (2 ^ width - 1)))) }
 {
-    let ones = ones_term(width)?;
+    let ones = ones_term(width);
     let q = equal(alloc, a, ones)?;
     truth_term(alloc, q)
 }
 
 // One bit: whether some bit of a term of this width is 1.
 fn some_one(alloc: Global, a: Term, width: u32) -> Result<Term, NoMemory>
+    requires { IsWord (record { width = width; bits = 0 }) }
     ensures { IfOk result (λ t. plain t ≡ falsity_term (equal_term (plain a) (word_term width 0))) }
 {
-    let zeros = word_term(width, 0)?;
+    let zeros = word_term(width, 0);
     let q = equal(alloc, a, zeros)?;
     falsity_term(alloc, q)
 }
 
 // An operator on an operand of this width.
+#[tactic(auto, using(crate::proofs::Widths::zero_fits, crate::proofs::Widths::one_fits))]
 fn unary_term(
     alloc: Global,
     op: Unary,
@@ -100,6 +106,7 @@ fn unary_term(
     numbers: &[u32],
     a: Arg,
 ) -> Result<Term, NoMemory>
+    requires { IsWidth width }
     ensures { IfOk result (λ t. plain t ≡ unary_term op width (operand_term (number_at numbers.now) a)) }
 {
     let whole = operand(alloc, numbers, a)?;
@@ -205,11 +212,13 @@ fn applied(alloc: Global, op: TermOp, numbers: &[u32], args: &Args) -> Result<Te
 }
 
 // The word of a constant line of this width.
-fn constant_term(width: u32, op: &LineOp) -> Result<Term, NoMemory>
-    ensures { IfOk result (λ t. plain t ≡ constant (Datum.Bits (constant_word width op.now))) }
+#[tactic(auto, using(crate::proofs::Widths::zero_fits, crate::proofs::Widths::one_fits))]
+fn constant_term(width: u32, op: &LineOp) -> Term
+    requires { IsWidth width }
+    ensures { plain result ≡ constant (Datum.Bits (constant_word width op.now)) }
 {
     match op {
-        LineOp::Constant(word) => Ok(Term::Constant(Datum::Bits(*word))),
+        LineOp::Constant(word) => Term::Constant(Datum::Bits(*word)),
         LineOp::One => word_term(width, 1),
         LineOp::Zero => word_term(width, 0),
         LineOp::Ones => ones_term(width),
@@ -224,6 +233,8 @@ pub(crate) fn line_term(
     numbers: &[u32],
     line: &Line,
 ) -> Result<Term, NoMemory>
+    requires sort { IsWidth (sort_at nodes.now line.now.sort) }
+    requires operand { HasOperandWidth (width_at nodes.now) line.now.op line.now.args }
     ensures { IfOk result (λ t. plain t ≡ line_term (number_at numbers.now) (width_at nodes.now) (sort_at nodes.now line.now.sort) line.now.op line.now.args) }
 {
     let args = &line.args;
@@ -237,6 +248,6 @@ pub(crate) fn line_term(
         LineOp::Slice(high, low) => applied(alloc, TermOp::Extract(*high, *low), numbers, args),
         LineOp::Uext(n) => applied(alloc, TermOp::ZeroExtend(*n), numbers, args),
         LineOp::Sext(n) => applied(alloc, TermOp::SignExtend(*n), numbers, args),
-        op => constant_term(sort_at(nodes, line.sort as usize), op),
+        op => Ok(constant_term(sort_at(nodes, line.sort as usize), op)),
     }
 }
