@@ -1,7 +1,7 @@
 pub mod Steps
 mod TreeLists
 mod LinkLists
-mod Depths
+pub mod Depths
 pub mod Translated
 mod Termed
 pub mod Numbered

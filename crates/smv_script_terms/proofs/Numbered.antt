@@ -8,7 +8,8 @@ use Rattle.smv_items.specs.FlatItems.{PlainFlatItem}
 use Rattle.smv_items.specs.FlatItemView.{item_plain}
 use Rattle.moxi_terms.specs.declared.term.Variable.{Variable}
 use Rattle.smv_script.specs.Script.{Group, inputs, outputs, locals, same_group, group_of, items_in, variable_of, variables_in, group_start, place_among, place_of_item}
-use Rattle.smv_script_terms.specs.Groups.{Numbers, count_of, counted_on, start_counts, numbers_from}
+use Rattle.smv_script_terms.specs.declared.variables.Counts.{Counts}
+use Rattle.smv_script_terms.specs.Groups.{Numbers, AreAtMost, counts_plain, count_of, counted_on, start_counts, numbers_from}
 use Rattle.smv_script_terms.proofs.Steps.{IsOfElements}
 
 -- ---- groups
@@ -42,7 +43,34 @@ count_end g xs i count total h k =
     let c : length (items_in g (map item_plain (drop i xs))) ≡ 0 = ap (λ ys. length (items_in g (map item_plain ys))) (drop_all i xs h) in
     omega (arith, c, k)
 
+kept_few : (b : Bool) (m : PlainFlatItem) (ms : List PlainFlatItem) (n : ℕ) → length ms ≤ n → length (cond b (m ∷ ms) ms) ≤ suc n
+kept_few true m ms n h = omega (arith, h)
+kept_few false m ms n h = omega (arith, h)
+
+-- a group has no more items than there are
+pub group_few : (g : Group) (xs : List FlatItem) → length (items_in g (map item_plain xs)) ≤ length xs
+group_few g [] = omega arith
+group_few g (x ∷ xs) = kept_few (same_group g (group_of x.kind)) (item_plain x) (items_in g (map item_plain xs)) (length xs) (group_few g xs)
+
 -- ---- numbers
+
+-- one more in one of the lists
+pub one_more : (c d : Counts) (g : Group) (n : ℕ) → counts_plain d ≡ counted_on (counts_plain c) g → AreAtMost n c → AreAtMost (n + 1) d
+one_more c d inputs n h a =
+    let i : d.inputs ≡ c.inputs + 1 = ap (λ (x : Numbers). x.inputs) h in
+    let o : d.outputs ≡ c.outputs = ap (λ (x : Numbers). x.outputs) h in
+    let l : d.locals ≡ c.locals = ap (λ (x : Numbers). x.locals) h in
+    record { inputs = omega (arith, i, a.inputs); outputs = omega (arith, o, a.outputs); locals = omega (arith, l, a.locals) }
+one_more c d outputs n h a =
+    let i : d.inputs ≡ c.inputs = ap (λ (x : Numbers). x.inputs) h in
+    let o : d.outputs ≡ c.outputs + 1 = ap (λ (x : Numbers). x.outputs) h in
+    let l : d.locals ≡ c.locals = ap (λ (x : Numbers). x.locals) h in
+    record { inputs = omega (arith, i, a.inputs); outputs = omega (arith, o, a.outputs); locals = omega (arith, l, a.locals) }
+one_more c d locals n h a =
+    let i : d.inputs ≡ c.inputs = ap (λ (x : Numbers). x.inputs) h in
+    let o : d.outputs ≡ c.outputs = ap (λ (x : Numbers). x.outputs) h in
+    let l : d.locals ≡ c.locals + 1 = ap (λ (x : Numbers). x.locals) h in
+    record { inputs = omega (arith, i, a.inputs); outputs = omega (arith, o, a.outputs); locals = omega (arith, l, a.locals) }
 
 pub numbers_on : (c d : Numbers) (xs : List FlatItem) (i : ℕ) (x : FlatItem) (all more total : List ℕ) (n : ℕ) → drop i xs ≡ x ∷ drop (i + 1) xs → more ≡ all ++ n ∷ [] → n ≡ count_of c (group_of x.kind)
     → d ≡ counted_on c (group_of x.kind) → all ++ numbers_from c (map item_plain (drop i xs)) ≡ total → more ++ numbers_from d (map item_plain (drop (i + 1) xs)) ≡ total

@@ -7,7 +7,7 @@ use Rattle.smv_flat.specs.FlatForms.{PlainFlat}
 use Rattle.smv_flat.specs.FlatFormulas.{form_plain}
 use Rattle.smv_script.specs.Script.{above_forms, above_items}
 use Rattle.smv_script_terms.specs.declared.chains.Chains.{Chains}
-use Rattle.smv_script_terms.specs.declared.formulas.FlatParts.{FlatParts}
+use Rattle.smv_script_terms.specs.declared.flat_parts.FlatParts.{FlatParts}
 use Rattle.smv_script_terms.specs.declared.formulas.FlatChains.{FlatChains}
 use Rattle.smv_script_terms.specs.Chains.{AreChains}
 use Rattle.smv_script_terms.specs.Parts.{body_number_of, form_number, item_number}

@@ -1,5 +1,5 @@
 -- The lists of variables, and the numbers of their items' variables.
-use Rattle.std.specs.Prelude.{ℕ, ◌+◌, List, [], ◌∷◌}
+use Rattle.std.specs.Prelude.{ℕ, ◌+◌, ◌≤◌, List, [], ◌∷◌}
 use Rattle.smv_items.specs.FlatItems.{PlainFlatItem}
 use Rattle.smv_script.specs.Script.{Group as Plain, inputs, outputs, locals, group_of, group_start}
 use Rattle.smv_script_terms.specs.declared.variables.Group.{Group}
@@ -19,6 +19,12 @@ pub record Numbers : Type 0 where
 
 abbrev pub counts_plain : Counts → Numbers
 counts_plain c = record { inputs = c.inputs; outputs = c.outputs; locals = c.locals }
+
+-- no number is greater than this one
+pub record AreAtMost (most : ℕ) (c : Counts) : Type 0 where
+  pub inputs : c.inputs ≤ most
+  pub outputs : c.outputs ≤ most
+  pub locals : c.locals ≤ most
 
 abbrev pub count_of : Numbers → Plain → ℕ
 count_of c inputs = c.inputs

@@ -6,3 +6,4 @@ pub mod Groups
 pub mod Chains
 pub mod Parts
 pub mod FlatParts
+pub mod Depths

@@ -11,26 +11,15 @@ ghost use Rattle.smv_script_terms.specs.Questions.{codes_of};
 
 use crate::chains::{Chains, chains_of};
 use crate::coding::Coding;
+use crate::flat_parts::FlatParts;
 use crate::operators::several;
 use crate::parts::{add_form, add_invar_item, add_trans_item, body_chains};
 use moxi_terms::{Term, TermOp, Terms};
-use name_maps::NameSet;
 use smv_flat::FlatFormula;
 use smv_items::FlatItem;
 use smv_text::When;
 use std::alloc::Global;
 use text_core::NoMemory;
-
-/// The items and the formulas of a flat form, and its symbols by number.
-#[derive(Clone, Copy)]
-pub struct FlatParts<'f> {
-    /// The items.
-    pub items: &'f [FlatItem],
-    /// The symbols, by number.
-    pub symbols: &'f NameSet,
-    /// The formulas.
-    pub formulas: &'f [FlatFormula],
-}
 
 /// The chains of items and of formulas by instance, those of bodies by item, and the number of instances.
 #[derive(Drop)]

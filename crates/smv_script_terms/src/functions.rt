@@ -1,5 +1,5 @@
 // The terms of functions and of bit selections.
-ghost use Rattle.std.specs.Prelude.{◌≡◌, IfOk, map, option_map};
+ghost use Rattle.std.specs.Prelude.{◌≡◌, ◌<◌, ◌≤◌, ◌+◌, ◌^◌, IfOk, map, option_map};
 ghost use Rattle.moxi_terms.specs.Tree.{binding, trees_of};
 ghost use Rattle.moxi_terms.specs.View.{plain};
 ghost use Rattle.smv_flat.specs.FlatTree.{flat_trees_of};
@@ -9,7 +9,8 @@ ghost use Rattle.smv_script.specs.Terms.{arguments_of, second_of};
 ghost use Rattle.smv_script_terms.specs.Functions.{arguments_plain, first_term, first_tree, magnitude_term, only_term, only_tree, pair_body, pair_term};
 ghost use Rattle.smv_script_terms.specs.Questions.{subject_tree};
 
-use crate::coding::{Subject, integer_term, subject_term, word_term};
+use crate::coding::Subject;
+use crate::constants::{integer_term, subject_term, word_term};
 use crate::operands::{amount_of, bound_to, word_width};
 use crate::operators::{apply_one, apply_two, choice, nothing, several};
 use moxi_terms::{Term, TermOp, Terms};
@@ -105,14 +106,18 @@ fn resized(alloc: Global, width: u32, n: u32, a: Term) -> Result<Term, NoMemory>
 
 // 1 where the term is true, or else 0.
 fn counted_term(alloc: Global, width: u32, a: Term) -> Result<Term, NoMemory>
+    requires some { 1 ≤ width }
+    requires low { width ≤ 64 }
     ensures { IfOk result (λ t. plain t ≡ counted_term width (plain a)) }
 {
-    let one = integer_term(width, 1)?;
-    let zero = integer_term(width, 0)?;
+    let one = integer_term(width, 1);
+    let zero = integer_term(width, 0);
     choice(alloc, a, one, zero)
 }
 
 fn counted_terms(alloc: Global, width: u32, terms: Terms) -> Result<Terms, NoMemory>
+    requires some { 1 ≤ width }
+    requires low { width ≤ 64 }
     ensures { IfOk result (λ ts. map plain ts.items ≡ map (counted_term width) (map plain terms.items)) }
 {
     let mut terms = terms;
@@ -126,6 +131,8 @@ fn counted_terms(alloc: Global, width: u32, terms: Terms) -> Result<Terms, NoMem
 }
 
 fn counted(alloc: Global, width: u32, terms: Terms) -> Result<Term, NoMemory>
+    requires some { 1 ≤ width }
+    requires low { width ≤ 64 }
     ensures { IfOk result (λ t. plain t ≡ sum_term (counted_terms width (trees_of (map plain terms.items)))) }
 {
     let all = counted_terms(alloc, width, terms)?;
@@ -151,11 +158,10 @@ fn only_of(terms: Terms) -> Option<Term>
 
 // The lesser or the greater of two operands, which are bound by a `let`.
 fn bound_pair(alloc: Global, k: u32, lesser: bool, terms: Terms) -> Result<Term, NoMemory>
+    requires bound { k + 1 < 2 ^ 32 }
     ensures { IfOk result (λ t. plain t ≡ binding t_and_u (trees_of (map plain terms.items)) (pair_body k lesser)) }
 {
-    let Some(next) = k.checked_add(1) else {
-        return Err(NoMemory);
-    };
+    let next = k + 1;
     let below = apply_two(
         alloc,
         TermOp::BvBinary(Binary::Slt),
@@ -189,9 +195,11 @@ fn bit_of(alloc: Global, a: Term) -> Result<Term, NoMemory>
 
 // The absolute value of an integer.
 fn magnitude(alloc: Global, width: u32, k: u32, a: Term) -> Result<Term, NoMemory>
+    requires some { 1 ≤ width }
+    requires low { width ≤ 64 }
     ensures { IfOk result (λ t. plain t ≡ binding t_alone (one (plain a)) (magnitude_term width k)) }
 {
-    let zero = integer_term(width, 0)?;
+    let zero = integer_term(width, 0);
     let slt = TermOp::BvBinary(Binary::Slt);
     let below = apply_two(alloc, slt, Term::Bound(k), zero)?;
     let opposite = apply_one(alloc, TermOp::BvUnary(Unary::Neg), Term::Bound(k))?;
@@ -216,6 +224,8 @@ fn of_only(
     before: u32,
     a: Term,
 ) -> Result<Term, NoMemory>
+    requires some { 1 ≤ width }
+    requires low { width ≤ 64 }
     ensures { IfOk result (λ t. plain t ≡ only_term width k function before (plain a)) }
 {
     match function {
@@ -246,6 +256,7 @@ fn of_first(
 }
 
 fn of_pair(alloc: Global, k: u32, lesser: bool, terms: Terms) -> Result<Term, NoMemory>
+    requires bound { k + 1 < 2 ^ 32 }
     ensures { IfOk result (λ t. plain t ≡ pair_term k lesser (trees_of (map plain terms.items))) }
 {
     if terms.len() == 2 {
@@ -266,6 +277,9 @@ pub(crate) fn function_term(
     arguments: Arguments,
     terms: Terms,
 ) -> Result<Term, NoMemory>
+    requires some { 1 ≤ width }
+    requires low { width ≤ 64 }
+    requires bound { k + 1 < 2 ^ 32 }
     ensures { IfOk result (λ t. plain t ≡ function_term width k function (arguments_plain arguments) (trees_of (map plain terms.items))) }
 {
     match function {
@@ -294,10 +308,12 @@ pub(crate) fn between(
     high: i64,
     subject: Subject,
 ) -> Result<Term, NoMemory>
+    requires some { 1 ≤ width }
+    requires small { width ≤ 64 }
     ensures { IfOk result (λ t. plain t ≡ between_term width low high (subject_tree subject)) }
 {
-    let least = integer_term(width, low as i128)?;
-    let most = integer_term(width, high as i128)?;
+    let least = integer_term(width, low as i128);
+    let most = integer_term(width, high as i128);
     let op = TermOp::BvBinary(Binary::Slte);
     let above = apply_two(alloc, op, least, subject_term(subject))?;
     let below = apply_two(alloc, op, subject_term(subject), most)?;

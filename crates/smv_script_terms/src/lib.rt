@@ -3,6 +3,8 @@
 
 mod chains;
 mod coding;
+mod constants;
+mod flat_parts;
 mod formulas;
 mod functions;
 mod operands;
@@ -13,7 +15,8 @@ mod terms;
 mod variables;
 
 pub use coding::{Coding, Question, Subject};
-pub use formulas::{FlatChains, FlatParts, flat_chains, formula_of};
+pub use flat_parts::FlatParts;
+pub use formulas::{FlatChains, flat_chains, formula_of};
 pub use operators::negate;
 pub use terms::terms_of;
 pub use variables::{Group, places_of, variables_in};

@@ -7,7 +7,7 @@ ghost use Rattle.smv_script.specs.Operators.{front_width, one, t_alone, infix_te
 ghost use Rattle.smv_script.specs.Terms.{is_word, word_width, amount_of};
 ghost use Rattle.smv_script_terms.specs.Operands.{operand_plain, case_plain, implied_parts, joined_term, chosen_cases};
 
-use crate::coding::word_term;
+use crate::constants::word_term;
 use crate::operators::{choice, implication, infix};
 use moxi_terms::Term;
 use smv_flat::{FlatExpr, FlatShape};

@@ -8,7 +8,8 @@ ghost use Rattle.smv_script_terms.specs.Questions.{answered_value, subject_tree}
 ghost use Rattle.smv_script_terms.specs.Operands.{several};
 ghost use Rattle.smv_text.specs.declared.operators.Infix.TheVariants.{Implies, Iff, Xnor};
 
-use crate::coding::{Question, Subject, subject_term};
+use crate::coding::{Question, Subject};
+use crate::constants::subject_term;
 use moxi_terms::{Datum, Term, TermOp, Terms};
 use smv_text::{Infix, Prefix};
 use std::alloc::Global;

@@ -1,5 +1,5 @@
 // The parts of the formulas of a system.
-ghost use Rattle.std.specs.Prelude.{◌≡◌, ◌<◌, ◌++◌, false, IfOk, OnOk, length, map};
+ghost use Rattle.std.specs.Prelude.{◌≡◌, ◌<◌, ◌^◌, ◌++◌, false, IfOk, OnOk, length, map};
 ghost use Rattle.moxi_terms.specs.Tree.{constant, variable};
 ghost use Rattle.moxi_terms.specs.View.{plain};
 ghost use Rattle.smv_intervals.specs.View.{seen};
@@ -10,13 +10,15 @@ ghost use Rattle.smv_script.specs.Codes.{symbol_datum};
 ghost use Rattle.smv_script.specs.Script.{body_parts, domain_parts, form_parts, interval_parts, invar_item, is_following, member_term, trans_item};
 ghost use Rattle.smv_script.specs.Terms.{translation};
 ghost use Rattle.smv_meaning.specs.Phases.{when_same};
+ghost use Rattle.smv_script_terms.specs.Depths.{depth};
 ghost use Rattle.smv_script_terms.specs.FlatParts.{AreBodyChains, plain_parts};
 ghost use Rattle.smv_script_terms.specs.Parts.{body_equation, body_number, body_number_of};
 ghost use Rattle.smv_script_terms.specs.Questions.{codes_of};
 
 use crate::chains::{Chains, chains_of};
-use crate::coding::{Coding, Question, Subject, integer_term};
-use crate::formulas::FlatParts;
+use crate::coding::{Coding, Question, Subject};
+use crate::constants::integer_term;
+use crate::flat_parts::FlatParts;
 use crate::functions::between;
 use crate::operators::{equal, several};
 use crate::terms::terms_of;
@@ -29,16 +31,6 @@ use smv_text::{Member, When};
 use std::alloc::Global;
 use text_core::NoMemory;
 
-// No accepted model has a value of more than 32 bits here.
-fn small(n: usize) -> Result<u32, NoMemory>
-    ensures { IfOk result (λ m. m ≡ n) }
-{
-    match u32::try_from(n) {
-        Ok(m) => Ok(m),
-        Err(_) => Err(NoMemory),
-    }
-}
-
 // The variable of an item, primed or unprimed.
 fn variable(coding: &Coding, k: u32, primed: bool) -> Term
     ensures { plain result ≡ variable ((codes_of coding.now).place k) primed }
@@ -46,14 +38,15 @@ fn variable(coding: &Coding, k: u32, primed: bool) -> Term
     Term::Variable(coding.place(k), primed)
 }
 
-fn symbol_term(symbols: &NameSet, name: &[u8]) -> Result<Term, NoMemory>
-    ensures { IfOk result (λ t. plain t ≡ constant (symbol_datum symbols.now name.now)) }
+fn symbol_term(symbols: &NameSet, name: &[u8]) -> Term
+    requires few { length symbols.now < 2 ^ 32 }
+    ensures { plain result ≡ constant (symbol_datum symbols.now name.now) }
 {
     let number = match symbols.place(name) {
-        Some(n) => small(n)?,
+        Some(n) => n as u32,
         None => 0,
     };
-    Ok(Term::Constant(Datum::Constant(0, number)))
+    Term::Constant(Datum::Constant(0, number))
 }
 
 // The test that an item's variable has the value of a member.
@@ -64,11 +57,12 @@ fn member_term(
     k: u32,
     member: &Member,
 ) -> Result<Term, NoMemory>
+    requires few { length symbols.now < 2 ^ 32 }
     ensures { IfOk result (λ t. plain t ≡ member_term coding.now.width symbols.now (variable ((codes_of coding.now).place k) false) member.now) }
 {
     let value = match member {
-        Member::Symbol(name) => symbol_term(symbols, name.bytes())?,
-        Member::Integer(z) => integer_term(coding.width, *z as i128)?,
+        Member::Symbol(name) => symbol_term(symbols, name.bytes()),
+        Member::Integer(z) => integer_term(coding.width, *z as i128),
     };
     equal(alloc, variable(coding, k, false), value)
 }
@@ -80,6 +74,7 @@ fn member_terms(
     k: u32,
     members: &[Member],
 ) -> Result<Terms, NoMemory>
+    requires few { length symbols.now < 2 ^ 32 }
     ensures { IfOk result (λ ts. map plain ts.items ≡ map (member_term coding.now.width symbols.now (variable ((codes_of coding.now).place k) false)) members.now) }
 {
     let mut all = Vec::with_capacity(alloc, members.len())?;
@@ -120,6 +115,7 @@ fn add_domain(
     members: &[Member],
     all: &mut Terms,
 ) -> Result<(), NoMemory>
+    requires few { length symbols.now < 2 ^ 32 }
     ensures { OnOk result (map plain all.new.items ≡ map plain all.old.items ++ domain_parts coding.now.width symbols.now (variable ((codes_of coding.now).place k) false) (seen ty) members.now) }
 {
     match members.first() {
@@ -171,6 +167,7 @@ fn add_body(
     form: &FlatFormula,
     all: &mut Terms,
 ) -> Result<(), NoMemory>
+    requires { depth 0 (plain_flat form.now.body) < 2 ^ 32 }
     ensures { OnOk result (map plain all.new.items ≡ map plain all.old.items ++ body_equation (codes_of coding.now) form.now.role (plain_flat form.now.body)) }
 {
     match form.role {
@@ -224,7 +221,7 @@ pub(crate) fn add_invar_item<'f>(
             alloc,
             coding,
             flat.symbols,
-            small(k)?,
+            k as u32,
             item.ty,
             item.members.as_slice(),
             all,
@@ -240,11 +237,12 @@ pub(crate) fn add_trans_item(
     item: &FlatItem,
     all: &mut Terms,
 ) -> Result<(), NoMemory>
+    requires number { k < 2 ^ 32 }
     ensures { OnOk result (map plain all.new.items ≡ map plain all.old.items ++ trans_item (codes_of coding.now) k item.now.kind) }
 {
     match item.kind {
         ItemKind::Frozen => {
-            let k = small(k)?;
+            let k = k as u32;
             let (next, now) = (variable(coding, k, true), variable(coding, k, false));
             let t = equal(alloc, next, now)?;
             Ok(all.push(t)?)
@@ -280,6 +278,7 @@ fn assigned(
     k: u32,
     body: &FlatExpr,
 ) -> Result<Term, NoMemory>
+    requires { depth 0 (plain_flat body.now) < 2 ^ 32 }
     ensures { IfOk result (λ t. plain t ≡ (translation (codes_of coding.now) (plain_flat body.now)).member 0 (variable ((codes_of coding.now).place k) (is_following when))) }
 {
     let subject = Subject::Variable(coding.place(k), is_following(when));
@@ -294,6 +293,7 @@ pub(crate) fn add_form(
     form: &FlatFormula,
     all: &mut Terms,
 ) -> Result<(), NoMemory>
+    requires { depth 0 (plain_flat form.now.body) < 2 ^ 32 }
     ensures { OnOk result (map plain all.new.items ≡ map plain all.old.items ++ form_parts (codes_of coding.now) when form.now.role (plain_flat form.now.body)) }
 {
     match (form.role, when) {

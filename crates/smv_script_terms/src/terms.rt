@@ -1,16 +1,18 @@
 // The terms of expressions.
-ghost use Rattle.std.specs.Prelude.{◌≡◌, IfOk, map};
+ghost use Rattle.std.specs.Prelude.{◌≡◌, ◌<◌, ◌+◌, ◌^◌, suc, max, IfOk, map};
 ghost use Rattle.moxi_terms.specs.Tree.{tree, trees_of};
 ghost use Rattle.moxi_terms.specs.View.{plain};
 ghost use Rattle.smv_flat.specs.FlatTree.{flat_links_of, flat_branches_of, flat_trees_of};
 ghost use Rattle.smv_flat.specs.FlatView.{plain_flat, plain_flat_link, plain_flat_branch};
 ghost use Rattle.smv_script.specs.Operators.{repeated, sign_op};
 ghost use Rattle.smv_script.specs.Terms.{is_word, translation, taken_translation};
+ghost use Rattle.smv_script_terms.specs.Depths.{depth, links_depth, branches_depth, trees_depth};
 ghost use Rattle.smv_script_terms.specs.Questions.{answered, codes_of};
 ghost use Rattle.smv_script_terms.specs.Operands.{answers, behind_term, case_plain, cases_of, chain_answers, link_answers, operand_plain, operands_of};
 ghost use Rattle.smv_script_terms.specs.Readings.{called_term, chain_answered, folded_answer, gathered_answer, named_subject, ranged_answer, united_answer};
 
-use crate::coding::{Coding, Question, Subject, integer_term};
+use crate::coding::{Coding, Question, Subject};
+use crate::constants::integer_term;
 use crate::functions::{arguments_of, between, function_term, selected};
 use crate::operands::{Case, Operand, chosen, front_width, implied, is_word, joined, word_width};
 use crate::operators::{
@@ -36,12 +38,13 @@ pub fn terms_of(
     question: Question,
     e: &FlatExpr,
 ) -> Result<Term, NoMemory>
+    requires { k + depth 0 (plain_flat e.now) < 2 ^ 32 }
     ensures { IfOk result (λ t. plain t ≡ answered question (translation (codes_of coding.now) (plain_flat e.now)) k) }
 {
     match &e.shape {
         FlatShape::True => answer_constant(alloc, question, Datum::Truth(true)),
         FlatShape::False => answer_constant(alloc, question, Datum::Truth(false)),
-        FlatShape::Number(n) => { answer(alloc, question, integer_term(coding.width, *n as i128)?) }
+        FlatShape::Number(n) => answer(alloc, question, integer_term(coding.width, *n as i128)),
         FlatShape::Literal(word) => answer_constant(alloc, question, Datum::Bits(*word)),
         FlatShape::Symbol(s) => answer_constant(alloc, question, Datum::Constant(0, *s)),
         FlatShape::Item(i, under) => answer_variable(alloc, question, coding.place(*i), *under),
@@ -80,6 +83,7 @@ fn prefixed(
     count: u32,
     operand: &FlatExpr,
 ) -> Result<Term, NoMemory>
+    requires { k + depth 0 (plain_flat operand.now) < 2 ^ 32 }
     ensures { IfOk result (λ t. plain t ≡ repeated (sign_op sign (is_word (plain_flat operand.now))) count ((translation (codes_of coding.now) (plain_flat operand.now)).term k)) }
 {
     let a = terms_of(alloc, coding, k, Question::Value, operand)?;
@@ -97,6 +101,7 @@ fn chained(
     first: &FlatExpr,
     links: &[FlatLink],
 ) -> Result<Term, NoMemory>
+    requires { k + suc (max (depth 0 (plain_flat first.now)) (links_depth 0 (flat_links_of (map plain_flat_link links.now)))) < 2 ^ 32 }
     ensures { IfOk result (λ t. plain t ≡ chain_answered question (codes_of coding.now) k (plain_flat first.now) (flat_links_of (map plain_flat_link links.now))) }
 {
     match reading_of(links) {
@@ -131,6 +136,7 @@ fn united(
     first: &FlatExpr,
     links: &[FlatLink],
 ) -> Result<Term, NoMemory>
+    requires { k + max (depth 0 (plain_flat first.now)) (links_depth 0 (flat_links_of (map plain_flat_link links.now))) < 2 ^ 32 }
     ensures { IfOk result (λ t. plain t ≡ united_answer question (codes_of coding.now) k (plain_flat first.now) (flat_links_of (map plain_flat_link links.now))) }
 {
     match question {
@@ -153,6 +159,7 @@ fn link_terms(
     first: &FlatExpr,
     links: &[FlatLink],
 ) -> Result<Terms, NoMemory>
+    requires { k + max (depth 0 (plain_flat first.now)) (links_depth 0 (flat_links_of (map plain_flat_link links.now))) < 2 ^ 32 }
     ensures { IfOk result (λ ts. trees_of (map plain ts.items) ≡ chain_answers question (codes_of coding.now) k (plain_flat first.now) (flat_links_of (map plain_flat_link links.now))) }
 {
     let mut all = Vec::with_capacity(alloc, links.len() + 1)?;
@@ -173,6 +180,7 @@ fn operands(
     k: u32,
     links: &[FlatLink],
 ) -> Result<Vec<Operand>, NoMemory>
+    requires { k + links_depth 0 (flat_links_of (map plain_flat_link links.now)) < 2 ^ 32 }
     ensures { IfOk result (λ xs. map operand_plain xs.items ≡ operands_of (codes_of coding.now) k (flat_links_of (map plain_flat_link links.now))) }
 {
     let mut all = Vec::with_capacity(alloc, links.len())?;
@@ -194,6 +202,7 @@ fn folded(
     first: &FlatExpr,
     links: &[FlatLink],
 ) -> Result<Term, NoMemory>
+    requires { k + suc (max (depth 0 (plain_flat first.now)) (links_depth 0 (flat_links_of (map plain_flat_link links.now)))) < 2 ^ 32 }
     ensures { IfOk result (λ t. plain t ≡ folded_answer (codes_of coding.now) k (plain_flat first.now) (flat_links_of (map plain_flat_link links.now))) }
 {
     let mut whole = terms_of(alloc, coding, k, Question::Value, first)?;
@@ -221,17 +230,15 @@ fn behind(
     tested: Option<Subject>,
     operand: &FlatExpr,
 ) -> Result<Term, NoMemory>
+    requires { k + suc (depth 0 (plain_flat operand.now)) < 2 ^ 32 }
     ensures { IfOk result (λ t. plain t ≡ behind_term op k tested (translation (codes_of coding.now) (plain_flat operand.now))) }
 {
     match op {
         Infix::Member => match tested {
             Some(subject) => terms_of(alloc, coding, k, Question::Permits(subject), operand),
             None => {
-                let Some(next) = k.checked_add(1) else {
-                    return Err(NoMemory);
-                };
                 let question = Question::Permits(Subject::Bound(k));
-                terms_of(alloc, coding, next, question, operand)
+                terms_of(alloc, coding, k + 1, question, operand)
             }
         },
         _ => terms_of(alloc, coding, k, Question::Value, operand),
@@ -248,6 +255,7 @@ fn taken(
     question: Question,
     branches: &[FlatBranch],
 ) -> Result<Term, NoMemory>
+    requires { k + branches_depth 0 (flat_branches_of (map plain_flat_branch branches.now)) < 2 ^ 32 }
     ensures { IfOk result (λ t. plain t ≡ answered question (taken_translation (codes_of coding.now) (flat_branches_of (map plain_flat_branch branches.now))) k) }
 {
     match branches.split_last() {
@@ -270,6 +278,7 @@ fn cases(
     question: Question,
     branches: &[FlatBranch],
 ) -> Result<Vec<Case>, NoMemory>
+    requires { k + branches_depth 0 (flat_branches_of (map plain_flat_branch branches.now)) < 2 ^ 32 }
     ensures { IfOk result (λ xs. map case_plain xs.items ≡ cases_of question (codes_of coding.now) k (flat_branches_of (map plain_flat_branch branches.now))) }
 {
     let mut all = Vec::with_capacity(alloc, branches.len())?;
@@ -291,6 +300,7 @@ fn parts(
     question: Question,
     exprs: &[FlatExpr],
 ) -> Result<Terms, NoMemory>
+    requires { k + trees_depth 0 (flat_trees_of (map plain_flat exprs.now)) < 2 ^ 32 }
     ensures { IfOk result (λ ts. trees_of (map plain ts.items) ≡ answers question (codes_of coding.now) k (flat_trees_of (map plain_flat exprs.now))) }
 {
     let mut all = Vec::with_capacity(alloc, exprs.len())?;
@@ -311,6 +321,7 @@ fn called(
     function: Function,
     arguments: &[FlatExpr],
 ) -> Result<Term, NoMemory>
+    requires { k + suc (trees_depth 0 (flat_trees_of (map plain_flat arguments.now))) < 2 ^ 32 }
     ensures { IfOk result (λ t. plain t ≡ called_term (codes_of coding.now) k function (flat_trees_of (map plain_flat arguments.now))) }
 {
     let terms = parts(alloc, coding, k, Question::Value, arguments)?;
@@ -334,6 +345,7 @@ fn gathered(
     question: Question,
     elements: &[FlatExpr],
 ) -> Result<Term, NoMemory>
+    requires { k + trees_depth 0 (flat_trees_of (map plain_flat elements.now)) < 2 ^ 32 }
     ensures { IfOk result (λ t. plain t ≡ gathered_answer question (codes_of coding.now) k (flat_trees_of (map plain_flat elements.now))) }
 {
     match question {

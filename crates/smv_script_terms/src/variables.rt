@@ -1,10 +1,10 @@
 // The variables of a system, and the numbers of the items' variables.
-ghost use Rattle.std.specs.Prelude.{◌≡◌, ◌+◌, ◌++◌, ◌∷◌, [], IfOk, OnOk, length, map};
+ghost use Rattle.std.specs.Prelude.{◌≡◌, ◌<◌, ◌≤◌, ◌+◌, ◌-◌, ◌*◌, ◌^◌, ◌++◌, ◌∷◌, [], IfOk, OnOk, length, map};
 ghost use Rattle.smv_items.specs.FlatItemView.{item_plain};
 ghost use Rattle.smv_intervals.specs.View.{seen};
 ghost use Rattle.smv_script.specs.Codes.{sort_of};
 ghost use Rattle.smv_script.specs.Script.{group_of, items_in, kind_letter, same_group, variable_of, variables_in};
-ghost use Rattle.smv_script_terms.specs.Groups.{count_of, counted_on, counts_plain, group_plain, numbers_from, start_counts};
+ghost use Rattle.smv_script_terms.specs.Groups.{AreAtMost, count_of, counted_on, counts_plain, group_plain, numbers_from, start_counts};
 
 use moxi_terms::{Sort, Variable, Variables};
 use smv_intervals::Ty;
@@ -116,58 +116,44 @@ fn add_variable(
     Ok(())
 }
 
-// No accepted model has more variables than 32 bits can number.
-fn one_more(n: u32) -> Result<u32, NoMemory>
-    ensures { IfOk result (λ m. m ≡ n + 1) }
-{
-    match n.checked_add(1) {
-        Some(m) => Ok(m),
-        None => Err(NoMemory),
-    }
-}
-
-fn sum(a: u32, b: u32) -> Result<u32, NoMemory>
-    ensures { IfOk result (λ n. n ≡ a + b) }
-{
-    match a.checked_add(b) {
-        Some(n) => Ok(n),
-        None => Err(NoMemory),
-    }
-}
-
 // The number of items in a group.
-fn count_in(group: Group, items: &[FlatItem]) -> Result<u32, NoMemory>
-    ensures { IfOk result (λ n. n ≡ length (items_in (group_plain group) (map item_plain items.now))) }
+fn count_in(group: Group, items: &[FlatItem]) -> u32
+    requires few { length items.now < 2 ^ 30 }
+    ensures count { result ≡ length (items_in (group_plain group) (map item_plain items.now)) }
+    ensures most { result ≤ length items.now }
 {
     let mut count = 0;
     for item in items {
-        count = counted_item(group, item, count)?;
+        count = counted_item(group, item, count);
     }
-    Ok(count)
+    count
 }
 
-fn counted_item(group: Group, item: &FlatItem, count: u32) -> Result<u32, NoMemory>
-    ensures { IfOk result (λ n. n ≡ count + length (items_in (group_plain group) (item_plain item.now ∷ []))) }
+fn counted_item(group: Group, item: &FlatItem, count: u32) -> u32
+    requires few { count < 2 ^ 32 - 1 }
+    ensures count { result ≡ count + length (items_in (group_plain group) (item_plain item.now ∷ [])) }
+    ensures most { result ≤ count + 1 }
 {
     if is_in(group, item.kind) {
-        one_more(count)
+        count + 1
     } else {
-        Ok(count)
+        count
     }
 }
 
 // The first number in each list.
-fn start_counts(items: &[FlatItem]) -> Result<Counts, NoMemory>
-    ensures { IfOk result (λ c. counts_plain c ≡ start_counts (map item_plain items.now)) }
+fn start_counts(items: &[FlatItem]) -> Counts
+    requires few { length items.now < 2 ^ 30 }
+    ensures counts { counts_plain result ≡ start_counts (map item_plain items.now) }
+    ensures most { AreAtMost (2 * length items.now) result }
 {
-    let outputs = count_in(Group::Inputs, items)?;
-    let more = count_in(Group::Outputs, items)?;
-    let locals = sum(outputs, more)?;
-    Ok(Counts {
+    let outputs = count_in(Group::Inputs, items);
+    let more = count_in(Group::Outputs, items);
+    Counts {
         inputs: 0,
         outputs,
-        locals,
-    })
+        locals: outputs + more,
+    }
 }
 
 fn number_in(counts: Counts, group: Group) -> u32
@@ -180,28 +166,30 @@ fn number_in(counts: Counts, group: Group) -> u32
     }
 }
 
-fn counted_on(counts: Counts, group: Group) -> Result<Counts, NoMemory>
-    ensures { IfOk result (λ c. counts_plain c ≡ counted_on (counts_plain counts) (group_plain group)) }
+fn counted_on(counts: Counts, group: Group) -> Counts
+    requires few { AreAtMost (2 ^ 32 - 2) counts }
+    ensures { counts_plain result ≡ counted_on (counts_plain counts) (group_plain group) }
 {
     let mut next = counts;
     match group {
-        Group::Inputs => next.inputs = one_more(counts.inputs)?,
-        Group::Outputs => next.outputs = one_more(counts.outputs)?,
-        Group::Locals => next.locals = one_more(counts.locals)?,
+        Group::Inputs => next.inputs = counts.inputs + 1,
+        Group::Outputs => next.outputs = counts.outputs + 1,
+        Group::Locals => next.locals = counts.locals + 1,
     }
-    Ok(next)
+    next
 }
 
 /// Returns the number of each item's variable.
 pub fn places_of(alloc: Global, items: &[FlatItem]) -> Result<Vec<u32>, NoMemory>
+    requires few { length items.now < 2 ^ 30 }
     ensures { IfOk result (λ ps. ps.items ≡ numbers_from (start_counts (map item_plain items.now)) (map item_plain items.now)) }
 {
-    let mut counts = start_counts(items)?;
+    let mut counts = start_counts(items);
     let mut all = Vec::with_capacity(alloc, items.len())?;
     for item in items {
         let group = group_of(item.kind);
         all.push(number_in(counts, group))?;
-        counts = counted_on(counts, group)?;
+        counts = counted_on(counts, group);
     }
     Ok(all)
 }

@@ -1,9 +1,10 @@
-use Rattle.std.proofs.Common.{map, refl}
+use Rattle.std.proofs.Common.{arith, map, refl}
 use Rattle.moxi_terms.specs.View.{plain}
 use Rattle.smv_flat.specs.FlatFormulas.{form_plain}
 use Rattle.smv_script_terms.specs.FlatParts.{instance_count}
 use Rattle.smv_script_terms.specs.Parts.{form_number, form_owned}
 use Rattle.smv_script_terms.specs.Questions.{codes_of}
+use Rattle.smv_script_terms.proofs.Depths.{form_within}
 use Rattle.smv_script_terms.proofs.Walked.{walk_starts}
 use Rattle.smv_script_terms.proofs.Formed.{form_numbers, forms_go_on}
 use Rattle.smv_script_terms.proofs.formulas.add_forms.Goals as goal
@@ -22,3 +23,6 @@ formulas-preserved c =
     let s = c.args.chains.now.formulas in
     forms_go_on g form_number c.args.flat.now.formulas.now s.firsts.items s.nexts.items (instance_count c.args.flat.now) c.args.i c.formulas.j c.next-j.result c.index-flat-j.result (map plain c.formulas.all.items) (map plain c.add_form.new.all.items) _
     (λ f. refl) c.requires.chains.formulas c.requires.number c.formulas-test.true c.index-flat-j.is c.in_ok-add_form.ensures c.next-j.ensures c.formulas.invariant
+
+pub add_form-requires : goal.add_form-requires
+add_form-requires c = let d = form_within c.args.flat.now.formulas.now c.formulas.j c.index-flat-j.result c.formulas-test.true in let l = c.args.flat.now.low in omega (arith, d, l)

@@ -1,8 +1,9 @@
-use Rattle.std.proofs.Common.{length, map, refl}
+use Rattle.std.proofs.Common.{arith, length, map, refl}
 use Rattle.moxi_terms.specs.View.{plain}
 use Rattle.smv_flat.specs.FlatFormulas.{form_plain}
 use Rattle.smv_script_terms.specs.Parts.{body_number_of, body_owned}
 use Rattle.smv_script_terms.specs.Questions.{codes_of}
+use Rattle.smv_script_terms.proofs.Depths.{form_within}
 use Rattle.smv_script_terms.proofs.Walked.{walk_starts}
 use Rattle.smv_script_terms.proofs.Formed.{bodies_end, form_numbers, forms_go_on}
 use Rattle.smv_script_terms.proofs.parts.add_bodies.Goals as goal
@@ -27,3 +28,6 @@ bodies-preserved c =
 pub returns : goal.returns
 returns c =
     bodies_end (length c.args.flat.now.items.now) c.args.k c.bodies.j (codes_of c.args.coding.now) c.args.flat.now.formulas.now (map plain c.bodies.all.items) (map plain c.args.all.now.items) c.bodies-test.false c.bodies.invariant
+
+pub add_body-requires : goal.add_body-requires
+add_body-requires c = let d = form_within c.args.flat.now.formulas.now c.bodies.j c.index-flat-j.result c.bodies-test.true in let l = c.args.flat.now.low in omega (arith, d, l)

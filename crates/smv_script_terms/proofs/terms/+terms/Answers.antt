@@ -18,28 +18,52 @@ use Rattle.smv_script_terms.proofs.terms.+terms.Goals as goal
 -- ---- depths
 
 pub cases-terms_of-requires : goal.cases-terms_of-requires
-cases-terms_of-requires t c = let d = branch_low c.args.branches.now c.loop-branch.branch-index c.branch-item.result c.loop-branch-test.true c.branch-item.is in omega (arith, d.when)
+cases-terms_of-requires t c =
+    let d = branch_low 1 c.args.branches.now c.loop-branch.branch-index c.branch-item.result c.loop-branch-test.true c.branch-item.is in
+    let n = branch_low 0 c.args.branches.now c.loop-branch.branch-index c.branch-item.result c.loop-branch-test.true c.branch-item.is in
+    (omega (arith, d.when), omega (arith, n.when))
 
 pub cases-terms_of-requires-in-loop-branch : goal.cases-terms_of-requires-in-loop-branch
-cases-terms_of-requires-in-loop-branch t c = let d = branch_low c.args.branches.now c.loop-branch.branch-index c.branch-item.result c.loop-branch-test.true c.branch-item.is in omega (arith, d.value)
+cases-terms_of-requires-in-loop-branch t c =
+    let d = branch_low 1 c.args.branches.now c.loop-branch.branch-index c.branch-item.result c.loop-branch-test.true c.branch-item.is in
+    let n = branch_low 0 c.args.branches.now c.loop-branch.branch-index c.branch-item.result c.loop-branch-test.true c.branch-item.is in
+    (omega (arith, d.value), omega (arith, n.value))
 
 pub folded-behind-requires : goal.folded-behind-requires
-folded-behind-requires t c = let d = link_low c.args.links.now c.loop-link.link-index c.link-item.result c.loop-link-test.true c.link-item.is in omega (arith, d)
+folded-behind-requires t c =
+    let d = link_low 1 c.args.links.now c.loop-link.link-index c.link-item.result c.loop-link-test.true c.link-item.is in
+    let n = link_low 0 c.args.links.now c.loop-link.link-index c.link-item.result c.loop-link-test.true c.link-item.is in
+    (omega (arith, d), omega (arith, n))
 
 pub link_terms-terms_of-requires-in-loop-link : goal.link_terms-terms_of-requires-in-loop-link
-link_terms-terms_of-requires-in-loop-link t c = let d = link_low c.args.links.now c.loop-link.link-index c.link-item.result c.loop-link-test.true c.link-item.is in omega (arith, d)
+link_terms-terms_of-requires-in-loop-link t c =
+    let d = link_low 1 c.args.links.now c.loop-link.link-index c.link-item.result c.loop-link-test.true c.link-item.is in
+    let n = link_low 0 c.args.links.now c.loop-link.link-index c.link-item.result c.loop-link-test.true c.link-item.is in
+    (omega (arith, d), omega (arith, n))
 
 pub operands-terms_of-requires : goal.operands-terms_of-requires
-operands-terms_of-requires t c = let d = link_low c.args.links.now c.loop-link.link-index c.link-item.result c.loop-link-test.true c.link-item.is in omega (arith, d)
+operands-terms_of-requires t c =
+    let d = link_low 1 c.args.links.now c.loop-link.link-index c.link-item.result c.loop-link-test.true c.link-item.is in
+    let n = link_low 0 c.args.links.now c.loop-link.link-index c.link-item.result c.loop-link-test.true c.link-item.is in
+    (omega (arith, d), omega (arith, n))
 
 pub parts-terms_of-requires : goal.parts-terms_of-requires
-parts-terms_of-requires t c = let d = tree_low c.args.exprs.now c.loop-e.e-index c.e-item.result c.loop-e-test.true c.e-item.is in omega (arith, d)
+parts-terms_of-requires t c =
+    let d = tree_low 1 c.args.exprs.now c.loop-e.e-index c.e-item.result c.loop-e-test.true c.e-item.is in
+    let n = tree_low 0 c.args.exprs.now c.loop-e.e-index c.e-item.result c.loop-e-test.true c.e-item.is in
+    (omega (arith, d), omega (arith, n))
 
 pub taken-terms_of-requires : goal.taken-terms_of-requires
-taken-terms_of-requires t c = let d = firsts_low c.args.branches.now c.in-Some.firsts.now c.in-Some.last.now c.in-Some.ensures.cases.0 in omega (arith, d.last)
+taken-terms_of-requires t c =
+    let d = firsts_low 1 c.args.branches.now c.in-Some.firsts.now c.in-Some.last.now c.in-Some.ensures.cases.0 in
+    let n = firsts_low 0 c.args.branches.now c.in-Some.firsts.now c.in-Some.last.now c.in-Some.ensures.cases.0 in
+    (omega (arith, d.last), omega (arith, n.last))
 
 pub taken-cases-requires : goal.taken-cases-requires
-taken-cases-requires t c = let d = firsts_low c.args.branches.now c.in-Some.firsts.now c.in-Some.last.now c.in-Some.ensures.cases.0 in omega (arith, d.firsts)
+taken-cases-requires t c =
+    let d = firsts_low 1 c.args.branches.now c.in-Some.firsts.now c.in-Some.last.now c.in-Some.ensures.cases.0 in
+    let n = firsts_low 0 c.args.branches.now c.in-Some.firsts.now c.in-Some.last.now c.in-Some.ensures.cases.0 in
+    (omega (arith, d.firsts), omega (arith, n.firsts))
 
 -- ---- loops
 

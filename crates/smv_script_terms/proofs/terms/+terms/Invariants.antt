@@ -7,47 +7,47 @@ use Rattle.smv_script.specs.Terms.{translation}
 use Rattle.smv_script_terms.specs.Questions.{answered, codes_of}
 use Rattle.smv_script_terms.specs.Operands.{answers, case_plain, cases_of, folded, link_answers, operand_plain, operands_of}
 use Rattle.smv_script_terms.specs.Readings.{folded_answer}
-use Rattle.smv_script_terms.proofs.Depths.{depth, links_depth, branches_depth, trees_depth}
+use Rattle.smv_script_terms.specs.Depths.{depth, links_depth, branches_depth, trees_depth}
 use Rattle.smv_script_terms.proofs.terms.+terms.Given as goal
 
 abbrev pub decreases-terms_of : goal.decreases-terms_of
-decreases-terms_of l = 8 * depth (plain_flat l.e.now) + 1
+decreases-terms_of l = 8 * depth 1 (plain_flat l.e.now) + 1
 
 abbrev pub decreases-prefixed : goal.decreases-prefixed
-decreases-prefixed l = 8 * depth (plain_flat l.operand.now) + 2
+decreases-prefixed l = 8 * depth 1 (plain_flat l.operand.now) + 2
 
 abbrev pub decreases-chained : goal.decreases-chained
-decreases-chained l = 8 * max (depth (plain_flat l.first.now)) (links_depth (flat_links_of (map plain_flat_link l.links.now))) + 5
+decreases-chained l = 8 * max (depth 1 (plain_flat l.first.now)) (links_depth 1 (flat_links_of (map plain_flat_link l.links.now))) + 5
 
 abbrev pub decreases-united : goal.decreases-united
-decreases-united l = 8 * max (depth (plain_flat l.first.now)) (links_depth (flat_links_of (map plain_flat_link l.links.now))) + 4
+decreases-united l = 8 * max (depth 1 (plain_flat l.first.now)) (links_depth 1 (flat_links_of (map plain_flat_link l.links.now))) + 4
 
 abbrev pub decreases-link_terms : goal.decreases-link_terms
-decreases-link_terms l = 8 * max (depth (plain_flat l.first.now)) (links_depth (flat_links_of (map plain_flat_link l.links.now))) + 3
+decreases-link_terms l = 8 * max (depth 1 (plain_flat l.first.now)) (links_depth 1 (flat_links_of (map plain_flat_link l.links.now))) + 3
 
 abbrev pub decreases-operands : goal.decreases-operands
-decreases-operands l = 8 * links_depth (flat_links_of (map plain_flat_link l.links.now)) + 3
+decreases-operands l = 8 * links_depth 1 (flat_links_of (map plain_flat_link l.links.now)) + 3
 
 abbrev pub decreases-folded : goal.decreases-folded
-decreases-folded l = 8 * max (depth (plain_flat l.first.now)) (links_depth (flat_links_of (map plain_flat_link l.links.now))) + 4
+decreases-folded l = 8 * max (depth 1 (plain_flat l.first.now)) (links_depth 1 (flat_links_of (map plain_flat_link l.links.now))) + 4
 
 abbrev pub decreases-behind : goal.decreases-behind
-decreases-behind l = 8 * depth (plain_flat l.operand.now) + 2
+decreases-behind l = 8 * depth 1 (plain_flat l.operand.now) + 2
 
 abbrev pub decreases-taken : goal.decreases-taken
-decreases-taken l = 8 * branches_depth (flat_branches_of (map plain_flat_branch l.branches.now)) + 4
+decreases-taken l = 8 * branches_depth 1 (flat_branches_of (map plain_flat_branch l.branches.now)) + 4
 
 abbrev pub decreases-cases : goal.decreases-cases
-decreases-cases l = 8 * branches_depth (flat_branches_of (map plain_flat_branch l.branches.now)) + 3
+decreases-cases l = 8 * branches_depth 1 (flat_branches_of (map plain_flat_branch l.branches.now)) + 3
 
 abbrev pub decreases-parts : goal.decreases-parts
-decreases-parts l = 8 * trees_depth (flat_trees_of (map plain_flat l.exprs.now)) + 3
+decreases-parts l = 8 * trees_depth 1 (flat_trees_of (map plain_flat l.exprs.now)) + 3
 
 abbrev pub decreases-called : goal.decreases-called
-decreases-called l = 8 * trees_depth (flat_trees_of (map plain_flat l.arguments.now)) + 4
+decreases-called l = 8 * trees_depth 1 (flat_trees_of (map plain_flat l.arguments.now)) + 4
 
 abbrev pub decreases-gathered : goal.decreases-gathered
-decreases-gathered l = 8 * trees_depth (flat_trees_of (map plain_flat l.elements.now)) + 4
+decreases-gathered l = 8 * trees_depth 1 (flat_trees_of (map plain_flat l.elements.now)) + 4
 
 abbrev pub invariant-link_terms-loop-link : goal.invariant-link_terms-loop-link
 invariant-link_terms-loop-link l = map plain l.all.items ++ list_of (link_answers l.question (codes_of l.coding) l.k (flat_links_of (map plain_flat_link (drop l.link-index l.links))))
