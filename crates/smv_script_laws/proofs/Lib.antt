@@ -47,6 +47,7 @@ pub mod Formulas
 pub mod Weights
 pub mod Lows
 pub mod Printed
+pub mod SymbolCounts
 pub mod Limits
 pub mod Bounds
 pub mod Applied

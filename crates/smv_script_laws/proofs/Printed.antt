@@ -4,9 +4,6 @@ use Rattle.std.specs.Prelude.{codes}
 use Rattle.smv_text.specs.declared.tree.When.TheVariants.{Always, First, Following}
 use Rattle.smv_meaning.specs.Instances.{instances_of}
 use Rattle.smv_flat.specs.FlatForms.{PlainFlat, flat_of}
-use Rattle.moxi_terms.specs.declared.data.Sort.TheVariants as sort
-use Rattle.moxi_terms.specs.declared.data.Datum.TheVariants as datum
-use Rattle.moxi_terms.specs.declared.data.TermOp.TheVariants as op
 use Rattle.moxi_terms.specs.Names.{function_names}
 use Rattle.moxi_terms.specs.Tree.{Tree, constant, variable, bound, apply, binding, call, Trees, no_trees, tree}
 use Rattle.moxi_terms.specs.View.{ScopeState}

@@ -5,8 +5,9 @@ use Rattle.smv_text.specs.declared.token.Token.{Token}
 use Rattle.smv_text.specs.Tree.{PlainSource}
 use Rattle.smv_text.specs.Heights.{first_high, of_modules}
 use Rattle.smv_text.specs.Sources.{SpellsSource}
-use Rattle.smv_meaning.specs.Instances.{weight_of}
+use Rattle.smv_meaning.specs.Instances.{instances_of, weight_of}
 use Rattle.smv_meaning.specs.Phases.{IsAccepted}
+use Rattle.smv_items.specs.FlatItems.{symbols_of}
 use Rattle.smv_flat.specs.FlatForms.{PlainFlat, flat_smv}
 use Rattle.moxi_sexpr.specs.Lexing.{limit}
 use Rattle.moxi_scripts.specs.Script.{PlainScript, variables_in}
@@ -24,6 +25,10 @@ SizesByWeight = (source : PlainSource) (end : Place) (xs : List Token) → Spell
 abbrev pub CountsByWeight : Type 0
 CountsByWeight = (source : PlainSource) (end : Place) (xs : List Token) → SpellsSource source end xs → (width : ℕ)
     → length (variables_in (system_of (flat_smv source) width)) + length (check_of (flat_smv source) width).queries ≤ weight_of source
+
+-- each symbol stands in a module's body
+abbrev pub SymbolsByWeight : Type 0
+SymbolsByWeight = (source : PlainSource) (end : Place) (xs : List Token) → SpellsSource source end xs → length (symbols_of (instances_of source)) ≤ weight_of source
 
 -- where no expression is too high
 abbrev pub HeightsAreLow : Type 0

@@ -1,5 +1,5 @@
 // Laws of the sizes of scripts. These functions do nothing.
-ghost use Rattle.smv_script_laws.specs.BoundLaws.{SizesByWeight, CountsByWeight, HeightsAreLow, BracketsAreFew, NestsOnce, ScriptsAreSmall};
+ghost use Rattle.smv_script_laws.specs.BoundLaws.{SizesByWeight, CountsByWeight, HeightsAreLow, BracketsAreFew, NestsOnce, ScriptsAreSmall, SymbolsByWeight};
 
 /// Proves that the size of the instantiated system is at most five times the model's weight, plus five.
 pub fn sizes_are_weighed()
@@ -9,6 +9,11 @@ pub fn sizes_are_weighed()
 /// Proves that the system's variables and the queries together are at most as many as the model's weight.
 pub fn counts_are_weighed()
     ensures { CountsByWeight }
+{}
+
+/// Proves that a model has at most as many symbols as its weight.
+pub fn symbols_are_weighed()
+    ensures { SymbolsByWeight }
 {}
 
 /// Proves that no term of the script is higher than 1,146, if no expression of the model is higher than 380.

@@ -15,7 +15,7 @@ mod whole_laws;
 
 pub use bound_laws::{
     brackets_are_few, counts_are_weighed, heights_are_low, scripts_are_small, scripts_nest_once,
-    sizes_are_weighed,
+    sizes_are_weighed, symbols_are_weighed,
 };
 pub use environment_laws::{environments_are_rows, rows_have_environments};
 pub use formula_laws::{forms_say, formula_splits, items_say};

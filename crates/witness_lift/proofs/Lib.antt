@@ -1,4 +1,3 @@
-pub mod Symbols
 pub mod Models
 pub mod Frames
 pub mod Lifts

@@ -8,7 +8,6 @@ use Rattle.smv_text.specs.Lexing.{Lexes}
 use Rattle.smv_text.specs.Sources.{SpellsSource}
 use Rattle.smv_meaning.specs.Instances.{instances_of, weight_of}
 use Rattle.smv_meaning.specs.Phases.{IsAccepted}
-use Rattle.smv_items.specs.FlatItems.{symbols_of}
 use Rattle.smv_script.specs.Script.{script_for}
 use Rattle.btor_tree.specs.declared.lines.Line.{Line}
 use Rattle.btor_tree.specs.Fits.{greatest_id, is_bad, operands}
@@ -51,10 +50,6 @@ pub record AreLaidOut (source : PlainSource) (lines : List Line) : Type 0 where
   pub few : length lines < greatest_id
 
 -- ---- laws
-
--- there are at most as many symbols as the model's weight
-abbrev pub SymbolsByWeight : Type 0
-SymbolsByWeight = (source : PlainSource) (end : Place) (xs : List Token) → SpellsSource source end xs → length (symbols_of (instances_of source)) ≤ weight_of source
 
 abbrev pub ModelsHaveFlatSystems : Type 0
 ModelsHaveFlatSystems = OfAccepted (λ source. flat_refusal (script_for source) ≡ None)

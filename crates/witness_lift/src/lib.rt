@@ -14,6 +14,6 @@ pub use lift::lift_smv;
 pub use lift_laws::traces_break_invariants;
 pub use line_laws::{
     model_lines_are_counted, model_lines_are_laid_out, model_lines_are_shared,
-    model_lines_are_spelled, models_have_flat_systems, models_have_frames, symbols_are_weighed,
+    model_lines_are_spelled, models_have_flat_systems, models_have_frames,
 };
 pub use moxi_lift::{LiftEnd, MoxiChain, MoxiEnd, lift_moxi};

@@ -1,5 +1,5 @@
 // Laws of the lines of a model's script. These functions only cite other laws.
-ghost use Rattle.witness_lift.specs.LineLaws.{ModelLinesAreCounted, ModelLinesAreLaidOut, ModelLinesAreShared, ModelLinesAreSpelled, ModelsHaveFlatSystems, ModelsHaveFrames, SymbolsByWeight};
+ghost use Rattle.witness_lift.specs.LineLaws.{ModelLinesAreCounted, ModelLinesAreLaidOut, ModelLinesAreShared, ModelLinesAreSpelled, ModelsHaveFlatSystems, ModelsHaveFrames};
 
 use btor_tree::{one_reading, printed_spells};
 use moxi_flat::{flat_systems_are_sorted, single_systems_are_flat, traces_have_flat_traces};
@@ -9,12 +9,8 @@ use moxi_layout::{
 };
 use smv_script_laws::{
     counts_are_weighed, runs_are_traces, scripts_are_small, scripts_are_whole, sizes_are_weighed,
+    symbols_are_weighed,
 };
-
-/// Proves that a model has at most as many symbols as its weight.
-pub fn symbols_are_weighed()
-    ensures { SymbolsByWeight }
-{}
 
 /// Proves that the script of an accepted model has a flat system: it is within all limits, and its variables have
 /// distinct names.

@@ -10,7 +10,7 @@ use Rattle.smv_text.specs.Tree.{Trees, PlainDomain, boolean, members, between, b
 use Rattle.smv_text.specs.Sources.{SpellsNames, no_names, name_then, SpellsMember, symbols, integers, SpellsMembers, no_members, member_then, SpellsType, booleans, enumerations, intervals, words, SpellsDomain, types, instances, SpellsItems, no_items, item_then, SpellsElement, variables, definitions, symbol_names, assignments, inits, transitions, invariants, specifications, SpellsElements, no_elements, element_then, SpellsModules, no_modules, module_then}
 use Rattle.smv_meaning.specs.Instances.{Instance, is_one_of, module_named, placed, child_in, child_of, with_child, grow_items, grow_elements, grow, main_instance, grown_from, main_name, instances_of}
 use Rattle.smv_items.specs.FlatItems.{member_symbols, domain_symbols, element_symbols, gathered}
-use Rattle.witness_lift.specs.LineLaws.{SymbolsByWeight}
+use Rattle.smv_script_laws.specs.BoundLaws.{SymbolsByWeight}
 
 -- ---- bodies
 
