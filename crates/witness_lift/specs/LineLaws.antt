@@ -6,7 +6,7 @@ use Rattle.smv_text.specs.Tree.{PlainSource}
 use Rattle.smv_text.specs.Heights.{first_high, of_modules}
 use Rattle.smv_text.specs.Lexing.{Lexes}
 use Rattle.smv_text.specs.Sources.{SpellsSource}
-use Rattle.smv_meaning.specs.Instances.{instances_of, weight_of}
+use Rattle.smv_meaning.specs.Instances.{weight_of}
 use Rattle.smv_meaning.specs.Phases.{IsAccepted}
 use Rattle.smv_script.specs.Script.{script_for}
 use Rattle.btor_tree.specs.declared.lines.Line.{Line}
