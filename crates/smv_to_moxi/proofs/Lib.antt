@@ -5,3 +5,5 @@ pub mod LiftedParts
 pub mod LiftedSteps
 pub mod LiftedWords
 pub mod LiftedTraces
+mod LowBodies
+mod SmallModels

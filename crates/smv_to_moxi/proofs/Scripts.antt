@@ -1,5 +1,6 @@
 -- The queries of a script and what they reach.
-use Rattle.std.proofs.Common.{◌≡◌, ℕ, ◌+◌, ◌++◌, Bool, true, false, Result, Ok, Err, IfOk, List, [], ◌∷◌, codes, drop, get_or, if◌then◌else◌, length, map, refl, sym, ap, ◌∙◌, arith}
+use Rattle.std.proofs.Common.{◌≡◌, ℕ, zero, suc, ◌+◌, ◌-◌, ◌<◌, ◌^◌, ◌++◌, Bool, true, false, Result, Ok, Err, IfOk, List, [], ◌∷◌, codes, drop, get_or, if◌then◌else◌, length, map, refl, sym, ap, ◌∙◌, arith}
+use Rattle.std.proofs.lemmas.List.{length-map}
 use Rattle.smv_items.specs.declared.items.FlatItem.{FlatItem}
 use Rattle.smv_items.specs.FlatItemView.{item_plain}
 use Rattle.smv_flat.specs.declared.forms.Role.{Role}
@@ -12,7 +13,7 @@ use Rattle.smv_flat_laws.specs.FlatTruth.{forms_invariants, role_invariant}
 use Rattle.moxi_scripts.specs.declared.script.Formula.{Formula}
 use Rattle.moxi_scripts.specs.declared.script.Query.{Query}
 use Rattle.moxi_terms.specs.View.{ScopeState}
-use Rattle.moxi_terms.specs.Names.{no_scope, with_enumeration}
+use Rattle.moxi_terms.specs.Names.{all_constants, may_be_enumeration, no_scope, with_enumeration}
 use Rattle.moxi_terms.specs.declared.term.Enumeration.{Enumeration}
 use Rattle.text_core.specs.declared.errors.NoMemory.{NoMemory}
 use Rattle.moxi_scripts.specs.Script.{PlainCheck, PlainFormula, PlainScript, PlainSystem, plain_formula}
@@ -20,6 +21,7 @@ use Rattle.smv_flat.specs.FlatForms.{PlainFlat}
 use Rattle.smv_script.specs.Terms.{Coding}
 use Rattle.smv_script.specs.Script.{check_of, coding_of, place_of_item, queries_from, query_of, reachables_from, script_of, symbol_sort, system_of}
 use Rattle.smv_script_terms.specs.FlatParts.{flat_in}
+use Rattle.smv_to_moxi.specs.Symbols.{CanBeConstants}
 use Rattle.smv_to_moxi.specs.Assembling.{symbol_scope, check_form, is_invariant, reachable_of, script_form, script_under, script_with, system_form}
 
 role_is : (r : Role) (e : FlatTree) → is_invariant r ≡ true → role_invariant r e ≡ e ∷ []
@@ -110,6 +112,31 @@ symbols_as name constants = record { name = name; constants = constants }
 some_symbols : (symbols : List (List ℕ)) → (length symbols ≡ 0 → ⊥) → symbols_as (codes "Symbol") (map (λ x. codes "c." ++ x) symbols) ∷ [] ≡ symbol_sort symbols
 some_symbols [] h = absurd (h refl)
 some_symbols (s ∷ ss) h = refl
+
+-- the symbols are never refused
+pub not_refused : (old : ScopeState) (name : List ℕ) (constants symbols : List (List ℕ)) (added : Bool) → old ≡ no_scope → name ≡ codes "Symbol" → constants ≡ map (λ x. codes "c." ++ x) symbols → CanBeConstants symbols
+    → added ≡ may_be_enumeration old name constants → added ≡ false → ⊥
+not_refused old name constants symbols added o n d can a h =
+    let e : false ≡ true = sym h ∙ a ∙ ap (λ s. may_be_enumeration s name constants) o ∙ ap (λ x. may_be_enumeration no_scope x constants) n ∙ ap (may_be_enumeration no_scope (codes "Symbol")) d ∙ can.free in
+    cc
+
+-- and their numbers have room
+pub record HasRoom (old : ScopeState) (constants : List (List ℕ)) : Type 0 where
+  pub some : 0 < length constants
+  pub room : length old.enumerations < 2 ^ 32 - 1
+  pub room_for_constants : length (all_constants old.enumerations) + length constants < 2 ^ 32
+
+pub room_for_symbols : (old : ScopeState) (constants symbols : List (List ℕ)) → old ≡ no_scope → CanBeConstants symbols → constants ≡ map (λ x. codes "c." ++ x) symbols → (length symbols ≡ 0 → ⊥) → HasRoom old constants
+room_for_symbols old constants symbols o can d h =
+    let l : length constants ≡ length symbols = ap length d ∙ length-map symbols (λ x. codes "c." ++ x) in
+    let n : length old.enumerations ≡ 0 = ap (λ (s : ScopeState). length s.enumerations) o in
+    let a : length (all_constants old.enumerations) ≡ 0 = ap (λ (s : ScopeState). length (all_constants s.enumerations)) o in
+    let few = can.few in
+    record { some = by (length symbols) h l; room = omega (arith, n); room_for_constants = omega (arith, a, l, few) }
+  where
+    by : (n : ℕ) → (n ≡ 0 → ⊥) → length constants ≡ n → 0 < length constants
+    by zero h e = absurd (h refl)
+    by (suc n) h e = omega (arith, e)
 
 -- the scope to which the symbols are added
 pub scope_is : (old new : ScopeState) (name : List ℕ) (constants symbols : List (List ℕ)) (added : Bool) → old ≡ no_scope → name ≡ codes "Symbol" → constants ≡ map (λ x. codes "c." ++ x) symbols → (length symbols ≡ 0 → ⊥)

@@ -22,6 +22,7 @@ use text_core::NoMemory;
 pub fn to_single(alloc: Global, flat: &Flat) -> Result<SingleScript, NoMemory>
     ensures { IfOk result (λ s. plain_single s ≡ script_of (flat_plain flat.now) flat.now.width) }
 {
+    flat.is_of_model();
     let mut scope = Scope::new(alloc);
     let single = single_in(
         alloc,

@@ -1,6 +1,7 @@
 // The script of a flat form.
 ghost use Rattle.moxi_terms.specs.Names.{no_scope};
-ghost use Rattle.std.specs.Prelude.{OnOk, ◌≡◌, ◌++◌, [], IfOk, map, codes, decimal};
+ghost use Rattle.std.specs.Prelude.{OnOk, ◌≡◌, ◌<◌, ◌≤◌, ◌^◌, ◌++◌, [], IfOk, length, map, codes, decimal, true};
+ghost use Rattle.name_maps.specs.Names.{are_fresh};
 ghost use Rattle.moxi_scripts.specs.Invariant.{IsSpelled};
 ghost use Rattle.moxi_scripts.specs.Script.{plain_check, plain_formula, plain_system};
 ghost use Rattle.moxi_scripts.specs.ScriptView.{plain_script};
@@ -9,10 +10,12 @@ ghost use Rattle.smv_flat.specs.FlatFormulas.{form_plain};
 ghost use Rattle.smv_flat.specs.FlatView.{plain_flat};
 ghost use Rattle.smv_flat_laws.specs.FlatTruth.{forms_invariants};
 ghost use Rattle.smv_script.specs.Script.{coding_of, place_of_item, query_of, queries_from, reachables_from, symbol_sort};
+ghost use Rattle.smv_script_terms.specs.Depths.{depth, forms_depth};
 ghost use Rattle.smv_script_terms.specs.Questions.{codes_of, place_at};
 ghost use Rattle.smv_script_terms.specs.FlatParts.{AreFlatChains, flat_in, plain_parts};
 ghost use Rattle.smv_to_moxi.specs.Assembling.{symbol_scope, check_form, is_invariant, reachable_of, script_form, script_under, script_with, system_form};
 ghost use Rattle.smv_to_moxi.specs.SingleView.{plain_single};
+ghost use Rattle.smv_to_moxi.specs.Symbols.{CanBeConstants};
 
 use moxi_scripts::{Check, Formula, Formulas, Queries, Query, Script, Subsystems, System, Systems};
 use moxi_terms::{Scope, Variable, Variables};
@@ -48,35 +51,33 @@ fn constant_names(alloc: Global, symbols: &Names) -> Result<Names, NoMemory>
     Ok(all)
 }
 
-// Declares the one sort whose constants are the symbols, if there are any. No accepted model has more symbols than 32
-// bits can number.
+// Declares the one sort whose constants are the symbols, if there are any.
 fn declare_symbols(alloc: Global, scope: &mut Scope, symbols: &Names) -> Result<(), NoMemory>
-    requires { scope.old ≡ no_scope }
+    requires nothing { scope.old ≡ no_scope }
+    requires symbols { CanBeConstants symbols.now }
     ensures { OnOk result (scope.new ≡ symbol_scope symbols.now) }
 {
     if symbols.len() == 0 {
         return Ok(());
     }
     let constants = constant_names(alloc, symbols)?;
-    if constants.len() == 0 || constants.len() > u32::MAX as usize {
-        return Err(NoMemory);
-    }
     let name = Name::of(alloc, b"Symbol")?;
     match scope.add_enumeration(name, constants) {
         Ok(true) => Ok(()),
-        Ok(false) => Err(NoMemory),
+        Ok(false) => unreachable!(),
         Err(e) => Err(e),
     }
 }
 
-// The symbols, by number. The symbols of a flat form are distinct.
+// The symbols, by number.
 fn symbol_set(alloc: Global, symbols: &Names) -> Result<NameSet, NoMemory>
+    requires { are_fresh [] symbols.now ≡ true }
     ensures { IfOk result (λ s. s ≡ symbols.now) }
 {
     let mut set = NameSet::new(alloc);
     match set.declare_all(alloc, symbols) {
         Ok(true) => Ok(set),
-        Ok(false) => Err(NoMemory),
+        Ok(false) => unreachable!(),
         Err(e) => Err(e),
     }
 }
@@ -151,6 +152,7 @@ fn reachable_of(
     j: usize,
     form: &FlatFormula,
 ) -> Result<Formula, NoMemory>
+    requires { depth 0 (plain_flat form.now.body) < 2 ^ 32 }
     ensures { IfOk result (λ f. plain_formula f ≡ reachable_of (codes_of coding.now) j (plain_flat form.now.body)) }
 {
     let name = numbered(alloc, b"r.", j)?;
@@ -175,6 +177,7 @@ fn reachables_of(
     coding: &Coding,
     formulas: &[FlatFormula],
 ) -> Result<Formulas, NoMemory>
+    requires { forms_depth (map form_plain formulas.now) < 2 ^ 32 }
     ensures { IfOk result (λ fs. map plain_formula fs ≡ reachables_from (codes_of coding.now) 0 (forms_invariants (map form_plain formulas.now))) }
 {
     let mut all = Formulas::new(alloc);
@@ -259,6 +262,9 @@ fn check_of<'f>(
 
 // The width of integers, and the numbers of the items' variables.
 fn coding_of(alloc: Global, width: u32, items: &[FlatItem]) -> Result<Coding, NoMemory>
+    requires few { length items.now < 2 ^ 30 }
+    requires some { 1 ≤ width }
+    requires low { width ≤ 64 }
     ensures width { IfOk result (λ c. c.width ≡ width) }
     ensures places { IfOk result (λ c. (λ k. place_at c.places.items k) ≡ place_of_item (map item_plain items.now)) }
 {
@@ -366,6 +372,7 @@ fn coded_single<'f>(
     scope: &mut Scope,
 ) -> Result<SingleScript, NoMemory>
     requires nothing { scope.old ≡ no_scope }
+    requires symbols { CanBeConstants symbols.now }
     requires same { symbols.now ≡ flat.now.symbols.now }
     requires coding { codes_of coding.now ≡ coding_of (plain_parts flat.now) coding.now.width }
     ensures { IfOk result (λ s. plain_single s ≡ script_form (plain_parts flat.now) coding.now.width) }
@@ -384,7 +391,10 @@ fn single_from<'f>(
     scope: &mut Scope,
 ) -> Result<SingleScript, NoMemory>
     requires nothing { scope.old ≡ no_scope }
+    requires symbols { CanBeConstants symbols.now }
     requires same { symbols.now ≡ flat.now.symbols.now }
+    requires some { 1 ≤ width }
+    requires low { width ≤ 64 }
     ensures { IfOk result (λ s. plain_single s ≡ script_form (plain_parts flat.now) width) }
 {
     let coding = coding_of(alloc, width, flat.items)?;
@@ -402,7 +412,12 @@ pub(crate) fn single_in(
     formulas: &[FlatFormula],
     scope: &mut Scope,
 ) -> Result<SingleScript, NoMemory>
-    requires { scope.old ≡ no_scope }
+    requires nothing { scope.old ≡ no_scope }
+    requires few { length items.now < 2 ^ 30 }
+    requires symbols { CanBeConstants symbols.now }
+    requires deep { forms_depth (map form_plain formulas.now) < 2 ^ 32 }
+    requires some { 1 ≤ width }
+    requires low { width ≤ 64 }
     ensures { IfOk result (λ s. plain_single s ≡ script_form (flat_in items.now symbols.now formulas.now) width) }
 {
     let set = symbol_set(alloc, symbols)?;

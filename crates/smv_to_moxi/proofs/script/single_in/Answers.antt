@@ -5,10 +5,16 @@ use Rattle.smv_to_moxi.specs.SingleView.{plain_single}
 use Rattle.smv_to_moxi.proofs.Scripts.{made_is, set_is}
 use Rattle.smv_to_moxi.proofs.script.single_in.Goals as goal
 
+pub symbol_set-requires : goal.symbol_set-requires
+symbol_set-requires c = c.requires.symbols.differ
+
 pub single_from-requires : goal.single_from-requires
 single_from-requires c = record {
-  nothing = c.requires;
+  nothing = c.requires.nothing;
+  symbols = c.requires.symbols;
   same = sym c.in_ok-set.ensures;
+  some = c.requires.some;
+  low = c.requires.low;
 }
 
 pub returns : goal.returns
