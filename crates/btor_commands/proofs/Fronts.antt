@@ -6,7 +6,7 @@ use Rattle.text_core.specs.Outside.{Files, IsAtEnd, IsFile, IsLonger, IsMissing,
 use Rattle.text_core.specs.Reading.{IsPast}
 use Rattle.btor_tree.specs.declared.lines.Line.{Line}
 use Rattle.btor_judge.specs.declared.judge.Judge.{Judge}
-use Rattle.btor_judge.specs.Judging.{StandsFor}
+use Rattle.btor_judge.specs.Judging.{Represents}
 use Rattle.btor_commands.specs.Limits.{most_witness_bytes}
 use Rattle.btor_commands.specs.Pieces.{HoldsFile, HoldsFront}
 
@@ -16,10 +16,10 @@ prefixed_more xs ys (Some rest) = ap Some (sym (append_assoc xs ys rest))
 
 -- a judge that was fed a piece stands for so many bytes more
 pub holds_more : (told : Option (List ℕ)) (lines : List Line) (old new : Judge) (count : ℕ) (before now : Option (List ℕ)) (piece : List ℕ) (h : HoldsFront told lines old count before)
-    → StandsFor lines new (h.text ++ piece) → before ≡ prefixed piece now → (n : ℕ) → length piece ≡ n → HoldsFront told lines new (count + n) now
-holds_more told lines old new count before now piece h stands bytes n size = record {
+    → Represents lines new (h.text ++ piece) → before ≡ prefixed piece now → (n : ℕ) → length piece ≡ n → HoldsFront told lines new (count + n) now
+holds_more told lines old new count before now piece h represents bytes n size = record {
   text = h.text ++ piece;
-  stands = stands;
+  represents = represents;
   size = length-append h.text piece ∙ omega (arith, h.size, size);
   front = h.front ∙ ap (prefixed h.text) bytes ∙ prefixed_more h.text piece now;
 }
@@ -32,7 +32,7 @@ whole (Some fs) name text (Some rest) present e at_end = e ∙ ap (λ r. Some (t
 -- at the end the judge stands for the file
 pub holds_file : (files : Option Files) (name : List ℕ) (lines : List Line) (judge : Judge) (count : ℕ) (left : Option (List ℕ)) → (IsMissing files name → ⊥) → HoldsFront (told_file files name) lines judge count left → count ≤ most_witness_bytes → IsAtEnd left → HoldsFile files name lines judge
 holds_file files name lines judge count left present h most at_end =
-    record { text = h.text; stands = h.stands; there = whole files name h.text left present h.front at_end; within = omega (arith, h.size, most) }
+    record { text = h.text; represents = h.represents; there = whole files name h.text left present h.front at_end; within = omega (arith, h.size, most) }
 
 -- a file is longer than what is told of it
 pub is_longer : (files : Option Files) (name : List ℕ) (limit : ℕ) → (IsMissing files name → ⊥) → IsPast (told_file files name) limit → IsLonger files name limit

@@ -22,7 +22,7 @@ use Rattle.command_core.specs.Answers.{status_of, text_of}
 use Rattle.command_core.specs.Reading.{file_within}
 use Rattle.command_core.specs.laws.Files.{done_from, goes_once}
 use Rattle.command_core.specs.laws.Texts.{done_text, one_answer}
-use Rattle.btor_commands.specs.Importing.{IsImport, IsScriptText, IsServed, OfBytes, ScriptsStand, StandsForLines, WritesScript, script_text}
+use Rattle.btor_commands.specs.Importing.{IsImport, IsScriptText, IsCorrectOutput, OfBytes, ScriptsAreCorrect, RepresentsLines, WritesScript, script_text}
 use Rattle.btor_commands.specs.Judgement.{btor_too_long}
 use Rattle.btor_commands.specs.Limits.{most_btor_bytes}
 use Rattle.btor_commands.specs.Traces.{HasTrace}
@@ -42,15 +42,15 @@ one_import fs model a b h k = goes_once (file_within fs model most_btor_bytes bt
 
 -- ---- what was written
 
-served_bytes : (stands : ScriptsStand) (fs : Files) (model bytes : List ℕ) (b : Answer) (before now : Option (List ℕ)) → file_at fs model ≡ Some bytes → OfBytes bytes b → status_of b ≡ status.Done → now ≡ grown before (text_of b) → IsServed fs model before now
-served_bytes stands fs model bytes b before now there h s w =
+correct_bytes : (stands : ScriptsAreCorrect) (fs : Files) (model bytes : List ℕ) (b : Answer) (before now : Option (List ℕ)) → file_at fs model ≡ Some bytes → OfBytes bytes b → status_of b ≡ status.Done → now ≡ grown before (text_of b) → IsCorrectOutput fs model before now
+correct_bytes stands fs model bytes b before now there h s w =
     let t = done_text (IsScriptText bytes) (λ r. IsRefused bytes (Bad r)) b h s in
     record { bytes = bytes; there = there; lines = t.0; spelled = t.1; text = text_of b; written = w; script = subst (WritesScript t.0) (sym t.2) (stands bytes t.0 t.1) }
 
 -- a script that was written whole stands for the lines
-pub served : (stands : ScriptsStand) (fs : Files) (model : List ℕ) (b : Answer) (before now : Option (List ℕ)) → IsImport fs model b → status_of b ≡ status.Done → now ≡ grown before (text_of b) → IsServed fs model before now
-served stands fs model b before now h s w =
-    done_from fs model most_btor_bytes btor_too_long OfBytes b refl h s (λ bytes there g. served_bytes stands fs model bytes b before now there g s w)
+pub correct_output : (stands : ScriptsAreCorrect) (fs : Files) (model : List ℕ) (b : Answer) (before now : Option (List ℕ)) → IsImport fs model b → status_of b ≡ status.Done → now ≡ grown before (text_of b) → IsCorrectOutput fs model before now
+correct_output stands fs model b before now h s w =
+    done_from fs model most_btor_bytes btor_too_long OfBytes b refl h s (λ bytes there g. correct_bytes stands fs model bytes b before now there g s w)
 
 -- ---- the script, wherever its check stands
 
@@ -75,7 +75,7 @@ module _ (lines : List Line) (p : Place) (well : IsWellFormed lines) (have : Tra
       let t = (have lines well j k q.0 q.1).1 f in
       record { query = q.0; there = q.1; trace = t.0; meets = met_here (import_of lines) p q.0 k t.0 t.1 }
 
-  pub stands : StandsForLines lines (with_place (import_of lines) p)
+  pub stands : RepresentsLines lines (with_place (import_of lines) p)
   stands = record {
     queries = count;
     frames = λ j k h. (from_frames j k h, from_trace j k);

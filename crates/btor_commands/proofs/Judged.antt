@@ -7,7 +7,7 @@ use Rattle.text_core.specs.declared.verdict.Verdict.TheVariants.{Yes, No}
 use Rattle.btor_tree.specs.declared.lines.Line.{Line}
 use Rattle.btor_tree.specs.Texts.{SpellsLines}
 use Rattle.btor_witness.specs.declared.witness.Witness.{Witness}
-use Rattle.btor_judge.specs.Judging.{Answers, Stands, StandsFor}
+use Rattle.btor_judge.specs.Judging.{Answers, RepresentsSome, Represents}
 use Rattle.btor_judge.specs.declared.judge.Judge.{Judge}
 use Rattle.btor_judge.specs.declared.judge.JudgeEnd.{JudgeEnd}
 use Rattle.btor_judge.specs.declared.judge.JudgeEnd.TheVariants.{Judged, Bad}
@@ -28,14 +28,14 @@ of_text lines text (Judged bad last (No step clause)) a = inl (a.0, a.1, (No ste
 of_text lines text (Bad refusal) a = inr (refusal, a, refl)
 
 -- a judge that stands for a file stands for a text
-pub stands_for_some : (files : Option Files) (name : List ℕ) (lines : List Line) (judge : Judge) → HoldsFile files name lines judge → Stands lines judge
-stands_for_some files name lines judge h = (h.text, h.stands)
+pub stands_for_some : (files : Option Files) (name : List ℕ) (lines : List Line) (judge : Judge) → HoldsFile files name lines judge → RepresentsSome lines judge
+stands_for_some files name lines judge h = (h.text, h.represents)
 
 -- what a judge says that stands for a file
 pub of_file : (files : Option Files) (name : List ℕ) (lines : List Line) (judge : Judge) (end : JudgeEnd) → HoldsFile files name lines judge
-    → ((text : List ℕ) → StandsFor lines judge text → Answers lines text end) → IsOfFile files name lines (judge_answer end)
+    → ((text : List ℕ) → Represents lines judge text → Answers lines text end) → IsOfFile files name lines (judge_answer end)
 of_file files name lines judge end h says =
-    record { text = h.text; there = h.there; within = h.within; answers = of_text lines h.text end (says h.text h.stands) }
+    record { text = h.text; there = h.there; within = h.within; answers = of_text lines h.text end (says h.text h.represents) }
 
 -- a verdict on a witness says neither that the words are no command nor that a file was not read
 verdict_says : (w : Witness) (v : Verdict) → SaysRead (verdict_answer w v)

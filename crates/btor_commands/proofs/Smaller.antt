@@ -27,7 +27,7 @@ use Rattle.command_core.specs.laws.Files.{done_from, goes_once}
 use Rattle.command_core.specs.laws.Texts.{done_text, one_answer}
 use Rattle.btor_commands.specs.Judgement.{btor_too_long}
 use Rattle.btor_commands.specs.Limits.{most_btor_bytes}
-use Rattle.btor_commands.specs.Simplifying.{IsServed, IsSimplification, IsSmallerText, OfBytes, SmallerTextsStand, WritesSmaller}
+use Rattle.btor_commands.specs.Simplifying.{IsCorrectOutput, IsSimplification, IsSmallerText, OfBytes, SmallerTextsAreCorrect, WritesSmaller}
 
 -- ---- one answer
 
@@ -53,19 +53,19 @@ pub printed_smaller : {E : Type 0} (result : Result (List ℕ) E) (old new : Lis
 printed_smaller (Ok text) old new s h = (new, s, h)
 printed_smaller (Err e) old new s h = tt
 
-served_bytes : (stands : SmallerTextsStand) (fs : Files) (model bytes : List ℕ) (b : Answer) (before now : Option (List ℕ)) → file_at fs model ≡ Some bytes → OfBytes bytes b → status_of b ≡ status.Done → now ≡ grown before (text_of b) → IsServed fs model before now
-served_bytes stands fs model bytes b before now there h s w =
+correct_bytes : (stands : SmallerTextsAreCorrect) (fs : Files) (model bytes : List ℕ) (b : Answer) (before now : Option (List ℕ)) → file_at fs model ≡ Some bytes → OfBytes bytes b → status_of b ≡ status.Done → now ≡ grown before (text_of b) → IsCorrectOutput fs model before now
+correct_bytes stands fs model bytes b before now there h s w =
     let t = done_text (IsSmallerText bytes) (λ r. IsRefused bytes (Bad r)) b h s in
     record { bytes = bytes; there = there; lines = t.lines; spelled = t.spelled; text = text_of b; written = w; smaller = subst (WritesSmaller t.lines) (sym t.printed_text) (stands bytes t.lines t.smaller t.spelled t.simplified) }
 
 -- a smaller text that was written whole keeps what the lines have
-pub served : (stands : SmallerTextsStand) (fs : Files) (model : List ℕ) (b : Answer) (before now : Option (List ℕ)) → IsSimplification fs model b → status_of b ≡ status.Done → now ≡ grown before (text_of b) → IsServed fs model before now
-served stands fs model b before now h s w =
-    done_from fs model most_btor_bytes btor_too_long OfBytes b refl h s (λ bytes there g. served_bytes stands fs model bytes b before now there g s w)
+pub correct_output : (stands : SmallerTextsAreCorrect) (fs : Files) (model : List ℕ) (b : Answer) (before now : Option (List ℕ)) → IsSimplification fs model b → status_of b ≡ status.Done → now ≡ grown before (text_of b) → IsCorrectOutput fs model before now
+correct_output stands fs model b before now h s w =
+    done_from fs model most_btor_bytes btor_too_long OfBytes b refl h s (λ bytes there g. correct_bytes stands fs model bytes b before now there g s w)
 
 -- ---- what a text of the smaller list spells
 
-pub stands : ListsGetSmaller → SmallerTextsStand
+pub stands : ListsGetSmaller → SmallerTextsAreCorrect
 stands smaller bytes lines new spelled simplified =
     let keeps : IsSmallerList lines new = smaller lines new (reads_well_formed spelled empty_well_formed) simplified in
     let again : SpellsLines (printed new) new = printed_spells new keeps.well_formed in
@@ -74,7 +74,7 @@ stands smaller bytes lines new spelled simplified =
 -- ---- a witness for the smaller text
 
 -- a witness that is accepted for the smaller text of a text is accepted for the text's own lines
-pub accepted_before : SmallerTextsStand → (bytes shorter : List ℕ) (smaller : List Line) → IsSmallerText bytes shorter → SpellsLines shorter smaller → (text : List ℕ) (w : Witness) → SpellsWitness smaller text w → judged_btor smaller w Yes
+pub accepted_before : SmallerTextsAreCorrect → (bytes shorter : List ℕ) (smaller : List Line) → IsSmallerText bytes shorter → SpellsLines shorter smaller → (text : List ℕ) (w : Witness) → SpellsWitness smaller text w → judged_btor smaller w Yes
     → (lines : List Line) × SpellsLines bytes lines × SpellsWitness lines text w × judged_btor lines w Yes
 accepted_before stand bytes shorter smaller h spelled text w states judged =
     let made = stand bytes h.lines h.smaller h.spelled h.simplified in

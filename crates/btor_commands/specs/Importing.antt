@@ -38,21 +38,21 @@ IsImport files model answer = GoesOn (file_within files model most_btor_bytes bt
 
 -- The script is a translation of the lines: it has a query for each bad line, and a trace meets query j at step k exactly where
 -- frames 0 to k have bad line j true in the last.
-pub record StandsForLines (lines : List Line) (script : PlainScript) : Type 0 where
+pub record RepresentsLines (lines : List Line) (script : PlainScript) : Type 0 where
   pub queries : length script.check.queries ≡ length (operands is_bad lines)
   pub frames : (j k : ℕ) → j < length (operands is_bad lines) → HasFrames lines j k ↔ HasTrace script j k
 
 -- the text spells a script, and each script that it spells is a translation of the lines
 pub record WritesScript (lines : List Line) (text : List ℕ) : Type 0 where
   pub there : (script : PlainScript) × SpellsText text script
-  pub each : (script : PlainScript) → SpellsText text script → StandsForLines lines script
+  pub each : (script : PlainScript) → SpellsText text script → RepresentsLines lines script
 
 -- the script written for each text is correct
-abbrev pub ScriptsStand : Type 0
-ScriptsStand = (bytes : List ℕ) (lines : List Line) → SpellsLines bytes lines → WritesScript lines (script_text lines)
+abbrev pub ScriptsAreCorrect : Type 0
+ScriptsAreCorrect = (bytes : List ℕ) (lines : List Line) → SpellsLines bytes lines → WritesScript lines (script_text lines)
 
 -- the written text is correct for the lines that the file with this name spells
-pub record IsServed (files : Files) (name : List ℕ) (before now : Option (List ℕ)) : Type 0 where
+pub record IsCorrectOutput (files : Files) (name : List ℕ) (before now : Option (List ℕ)) : Type 0 where
   pub bytes : List ℕ
   pub there : file_at files name ≡ Some bytes
   pub lines : List Line

@@ -6,7 +6,7 @@ use Rattle.btor_tree.specs.declared.lines.Line.{Line}
 use Rattle.btor_judge.specs.declared.judge.Judge.{Judge}
 use Rattle.btor_judge.specs.declared.judge.JudgeEnd.{JudgeEnd}
 use Rattle.btor_judge.specs.declared.judge.JudgeEnd.TheVariants.{Judged, Bad}
-use Rattle.btor_judge.specs.Judging.{StandsFor}
+use Rattle.btor_judge.specs.Judging.{Represents}
 use Rattle.command_core.specs.declared.answer.Answer.{Answer}
 use Rattle.command_core.specs.declared.answer.Answer.TheVariants as answer
 use Rattle.command_core.specs.declared.answer.Output.TheVariants as output
@@ -16,14 +16,14 @@ use Rattle.btor_commands.specs.Limits.{most_witness_bytes}
 -- The judge represents `count` bytes that were read. Where the bytes to read are exposed, these are a prefix of them, and the rest is left.
 pub record HoldsFront (told : Option (List ℕ)) (lines : List Line) (judge : Judge) (count : ℕ) (left : Option (List ℕ)) : Type 0 where
   pub text : List ℕ
-  pub stands : StandsFor lines judge text
+  pub represents : Represents lines judge text
   pub size : length text ≡ count
   pub front : told ≡ prefixed text left
 
 -- The judge represents a text within the limit. Where the files are exposed, it is the text of the file.
 pub record HoldsFile (files : Option Files) (name : List ℕ) (lines : List Line) (judge : Judge) : Type 0 where
   pub text : List ℕ
-  pub stands : StandsFor lines judge text
+  pub represents : Represents lines judge text
   pub there : IsFile files name text
   pub within : length text ≤ most_witness_bytes
 

@@ -40,11 +40,11 @@ pub record WritesSmaller (lines : List Line) (text : List ℕ) : Type 0 where
   pub keeps : IsSmallerList lines smaller
 
 -- the text written for each text preserves these
-abbrev pub SmallerTextsStand : Type 0
-SmallerTextsStand = (bytes : List ℕ) (lines smaller : List Line) → SpellsLines bytes lines → IsSimplified lines smaller → WritesSmaller lines (printed smaller)
+abbrev pub SmallerTextsAreCorrect : Type 0
+SmallerTextsAreCorrect = (bytes : List ℕ) (lines smaller : List Line) → SpellsLines bytes lines → IsSimplified lines smaller → WritesSmaller lines (printed smaller)
 
 -- the written text preserves these for the lines that the file with this name spells
-pub record IsServed (files : Files) (name : List ℕ) (before now : Option (List ℕ)) : Type 0 where
+pub record IsCorrectOutput (files : Files) (name : List ℕ) (before now : Option (List ℕ)) : Type 0 where
   pub bytes : List ℕ
   pub there : file_at files name ≡ Some bytes
   pub lines : List Line

@@ -7,7 +7,7 @@ ghost use Rattle.command_core.specs.Giving.{MayGive};
 ghost use Rattle.command_core.specs.Keeping.{KeepsShelf};
 ghost use Rattle.command_core.specs.Reading.{StopsUnread, StopsWith};
 ghost use Rattle.command_core.specs.laws.Texts.{text_says};
-ghost use Rattle.btor_commands.specs.Importing.{IsImport, IsScriptText, OfBytes, ScriptsStand, script_text};
+ghost use Rattle.btor_commands.specs.Importing.{IsImport, IsScriptText, OfBytes, ScriptsAreCorrect, script_text};
 ghost use Rattle.btor_commands.specs.Judgement.{btor_too_long};
 ghost use Rattle.btor_commands.specs.Limits.{most_btor_bytes};
 
@@ -86,8 +86,8 @@ fn text_of_lines(alloc: Global, nodes: &Nodes) -> Result<Text, NoMemory>
 ///
 /// In this script, some trace meets query j at step k exactly where the lines have suitable frames 0 to k. In these
 /// frames every constraint is true, and bad line j is true in frame k.
-pub fn imports_stand()
-    ensures { ScriptsStand }
+pub fn imports_are_correct()
+    ensures { ScriptsAreCorrect }
 {
     scripts_are_whole();
     names_are_spellable();

@@ -2,7 +2,7 @@
 ghost use Rattle.std.specs.Prelude.{◌≡◌, ◌≤◌, [], ◌∷◌, length, false, IfOk, IfErr, IsErrAnd};
 ghost use Rattle.text_core.specs.Outside.{BeginsOnly, Rose};
 ghost use Rattle.btor_tree.specs.Texts.{SpellsLines};
-ghost use Rattle.btor_judge.specs.Judging.{StandsFor, has_ended};
+ghost use Rattle.btor_judge.specs.Judging.{Represents, has_ended};
 ghost use Rattle.command_core.specs.Giving.{MayGive};
 ghost use Rattle.command_core.specs.Keeping.{KeepsShelf};
 ghost use Rattle.btor_commands.specs.Judgement.{IsJudgement, IsLinesRefusal, witness_too_long};
@@ -86,7 +86,7 @@ fn fed_answer<F: Shelf>(
     shelf: &mut F,
 ) -> Result<Answer, Stop>
     requires same { spare ≡ second.now }
-    requires stands { StandsFor nodes.now judge.old [] }
+    requires represents { Represents nodes.now judge.old [] }
     requires going { has_ended judge.old ≡ false }
     ensures answer { IfOk result (IsOfFile (F.files shelf.old) second.now nodes.now) }
     ensures stop { IfErr result (StopsWith (Instead (F.files shelf.old) (Rose (F.faults shelf.old) (F.faults shelf.new)) second.now most_witness_bytes witness_too_long)) }

@@ -8,7 +8,7 @@ mod pieces;
 mod second;
 mod simplify;
 
-pub use import::{btor_to_moxi, imports_stand};
+pub use import::{btor_to_moxi, imports_are_correct};
 pub use judge::judge_files;
 pub use second::{lines_are_spelled, witness_in};
-pub use simplify::{simplify_btor, smaller_texts_stand};
+pub use simplify::{simplify_btor, smaller_texts_are_correct};

@@ -2,7 +2,7 @@
 ghost use Rattle.std.specs.Prelude.{◌≡◌, ◌⊎◌, ◌<◌, ◌≤◌, ◌+◌, [], List, ℕ, Option, length, false, IfOk, OnOk, IsErrOf};
 ghost use Rattle.text_core.specs.Outside.{IsMissing, IsLonger, IsAtEnd, BeginsOnly, Rose};
 ghost use Rattle.text_core.specs.Reading.{IsPast};
-ghost use Rattle.btor_judge.specs.Judging.{Stands, StandsFor, has_ended};
+ghost use Rattle.btor_judge.specs.Judging.{RepresentsSome, Represents, has_ended};
 ghost use Rattle.btor_commands.specs.Limits.{most_witness_bytes};
 ghost use Rattle.btor_commands.specs.Pieces.{HoldsFile, HoldsFront};
 
@@ -32,7 +32,7 @@ pub fn feed_file<F: Shelf>(
     judge: &mut Judge,
 ) -> Result<(), PieceEnd>
     requires room { 0 < length buffer.old }
-    requires stands { StandsFor nodes.now judge.old [] }
+    requires represents { Represents nodes.now judge.old [] }
     requires going { has_ended judge.old ≡ false }
     ensures fed { OnOk result (HoldsFile (F.files shelf.old) name.now nodes.now judge.new) }
 
@@ -69,7 +69,7 @@ fn feed_piece<F: Shelf>(
 ) -> Result<usize, PieceEnd>
     requires room { 0 < length buffer.old }
     requires within { count ≤ most_witness_bytes }
-    requires stands { Stands nodes.now judge.old }
+    requires represents { RepresentsSome nodes.now judge.old }
     requires going { has_ended judge.old ≡ false }
     ensures front { (told : Option (List ℕ)) → HoldsFront told nodes.now judge.old count (F.left shelf.old) → IfOk result (λ n. HoldsFront told nodes.now judge.new (count + n) (F.left shelf.new)) }
     ensures within { IfOk result (λ n. count + n ≤ most_witness_bytes) }

@@ -12,7 +12,7 @@ ghost use Rattle.command_core.specs.Reading.{StopsUnread, StopsWith};
 ghost use Rattle.command_core.specs.laws.Texts.{text_says};
 ghost use Rattle.btor_commands.specs.Judgement.{btor_too_long};
 ghost use Rattle.btor_commands.specs.Limits.{most_btor_bytes};
-ghost use Rattle.btor_commands.specs.Simplifying.{IsSimplification, IsSmallerText, OfBytes, SmallerTextsStand};
+ghost use Rattle.btor_commands.specs.Simplifying.{IsSimplification, IsSmallerText, OfBytes, SmallerTextsAreCorrect};
 
 use crate::judge::BTOR_LIMIT;
 use btor_simplify::{lists_get_smaller, simplify};
@@ -86,8 +86,8 @@ fn text_of_smaller(alloc: Global, nodes: Nodes) -> Result<Text, NoMemory>
 /// longer.
 ///
 /// This list keeps the words and the witnesses of the text's lines.
-pub fn smaller_texts_stand()
-    ensures { SmallerTextsStand }
+pub fn smaller_texts_are_correct()
+    ensures { SmallerTextsAreCorrect }
 {
     lists_get_smaller();
 }

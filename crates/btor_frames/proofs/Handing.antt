@@ -11,7 +11,7 @@ use Rattle.btor_tree.specs.Fits.{IsWellFormed, count_of, has_word, is_input, is_
 use Rattle.btor_tree.specs.Frame.{GivenFits}
 use Rattle.btor_tree.proofs.Grows.{slice_get_inside, lines_short}
 use Rattle.btor_tree.proofs.Paths.{width_is}
-use Rattle.btor_frames.specs.Steps.{handed_at, handed_for, handed_line, HandedFit}
+use Rattle.btor_frames.specs.Steps.{supplied_at, supplied_for, supplied_line, SuppliedFit}
 use Rattle.btor_frames.proofs.Lines.{if_some}
 
 -- an input or a state has a width, which its word has to have
@@ -51,13 +51,13 @@ read_both lines i l x v w g h is e =
 pub record FitSoFar (lines : List Line) (inputs free : List BitVector) (i input state : ℕ) : Type 0 where
   pub input_is : input ≡ count_of is_input (take i lines)
   pub state_is : state ≡ count_of is_state (take i lines)
-  pub fits : (k : ℕ) (l : Line) → k < i → slice_get lines k ≡ Some l → GivenFits (take k lines) l.sort l.op (handed_for l.op (take k lines) inputs free)
+  pub fits : (k : ℕ) (l : Line) → k < i → slice_get lines k ≡ Some l → GivenFits (take k lines) l.sort l.op (supplied_for l.op (take k lines) inputs free)
 
 -- the word that is handed in for a line
-pub handed_is : (lines : List Line) (inputs free : List BitVector) (i : ℕ) (l : Line) → slice_get lines i ≡ Some l → handed_at lines inputs free i ≡ handed_for l.op (take i lines) inputs free
-handed_is lines inputs free i l g = ap (λ o. handed_line o (take i lines) inputs free) g
+pub handed_is : (lines : List Line) (inputs free : List BitVector) (i : ℕ) (l : Line) → slice_get lines i ≡ Some l → supplied_at lines inputs free i ≡ supplied_for l.op (take i lines) inputs free
+handed_is lines inputs free i l g = ap (λ o. supplied_line o (take i lines) inputs free) g
 
-pub fits_more : (lines : List Line) (inputs free : List BitVector) (i : ℕ) (x : BitVector) → x ≡ handed_at lines inputs free i → IfSome (slice_get lines i) (λ k. GivenFits (take i lines) k.sort k.op x) → ((k : ℕ) (l : Line) → k < i → slice_get lines k ≡ Some l → GivenFits (take k lines) l.sort l.op (handed_for l.op (take k lines) inputs free)) → (k : ℕ) (l : Line) → k < i + 1 → slice_get lines k ≡ Some l → GivenFits (take k lines) l.sort l.op (handed_for l.op (take k lines) inputs free)
+pub fits_more : (lines : List Line) (inputs free : List BitVector) (i : ℕ) (x : BitVector) → x ≡ supplied_at lines inputs free i → IfSome (slice_get lines i) (λ k. GivenFits (take i lines) k.sort k.op x) → ((k : ℕ) (l : Line) → k < i → slice_get lines k ≡ Some l → GivenFits (take k lines) l.sort l.op (supplied_for l.op (take k lines) inputs free)) → (k : ℕ) (l : Line) → k < i + 1 → slice_get lines k ≡ Some l → GivenFits (take k lines) l.sort l.op (supplied_for l.op (take k lines) inputs free)
 fits_more lines inputs free i x e here before k l h g =
     elim (cases_lt k i) [
       | inl less ↦ before k l less g
@@ -65,12 +65,12 @@ fits_more lines inputs free i x e here before k l h g =
           let same : k ≡ i = omega (arith, h, most) in
           let at : slice_get lines i ≡ Some l = ap (slice_get lines) (sym same) ∙ g in
           let fit = if_some_at (slice_get lines i) (λ m. GivenFits (take i lines) m.sort m.op x) l at here in
-          subst (λ n. GivenFits (take n lines) l.sort l.op (handed_for l.op (take n lines) inputs free)) (sym same)
+          subst (λ n. GivenFits (take n lines) l.sort l.op (supplied_for l.op (take n lines) inputs free)) (sym same)
           (subst (GivenFits (take i lines) l.sort l.op) (e ∙ handed_is lines inputs free i l at) fit)
     ]
 
 -- all words fit, and there are as many as lines
-pub fits_whole : (lines : List Line) (inputs free : List BitVector) (i input state : ℕ) → length lines ≤ i → FitSoFar lines inputs free i input state → length inputs ≡ input → length free ≡ state → HandedFit lines inputs free
+pub fits_whole : (lines : List Line) (inputs free : List BitVector) (i input state : ℕ) → length lines ≤ i → FitSoFar lines inputs free i input state → length inputs ≡ input → length free ≡ state → SuppliedFit lines inputs free
 fits_whole lines inputs free i input state h so a b =
     let all = take_all i lines h in
     record {
@@ -80,6 +80,6 @@ fits_whole lines inputs free i input state h so a b =
     }
 
 -- the last counts are those of all lines
-pub states_counted : (lines : List Line) (inputs free : List BitVector) (i input state : ℕ) → length lines ≤ i → FitSoFar lines inputs free i input state → HandedFit lines inputs free → length free ≡ state
+pub states_counted : (lines : List Line) (inputs free : List BitVector) (i input state : ℕ) → length lines ≤ i → FitSoFar lines inputs free i input state → SuppliedFit lines inputs free → length free ≡ state
 states_counted lines inputs free i input state h so f =
     f.free_long ∙ sym (so.state_is ∙ ap (count_of is_state) (take_all i lines h))

@@ -13,7 +13,7 @@ use Rattle.btor_tree.proofs.Grows.{take_push, count_push}
 use Rattle.btor_tree.proofs.Words.{computed}
 use Rattle.btor_tree.proofs.Rows.{row_upto, word_here, Given, GivesWords, frame_upto}
 use Rattle.btor_tree.proofs.Paths.{given_of, first_gives, next_gives, whole_frame, reads, frees_read, first_inits, next_nexts}
-use Rattle.btor_frames.specs.Steps.{is_given, value_kind, value_word, handed_at, handed_for, handed_line, HandedFit, IsStep}
+use Rattle.btor_frames.specs.Steps.{is_given, value_kind, value_word, supplied_at, supplied_for, supplied_line, SuppliedFit, IsStep}
 use Rattle.btor_frames.proofs.Lines.{if_some}
 use Rattle.btor_frames.proofs.Handing.{if_some_at}
 
@@ -22,25 +22,25 @@ count_step kind lines i l h =
     let e : i + 1 ≡ suc i = omega arith in
     ap (λ m. count_of kind (take m lines)) e ∙ ap (count_of kind) (take_push lines i l h) ∙ count_push kind (take i lines) l
 
-pub free_fits : (lines : List Line) (inputs free : List BitVector) → HandedFit lines inputs free → FreeFits lines (handed_at lines inputs free)
+pub free_fits : (lines : List Line) (inputs free : List BitVector) → SuppliedFit lines inputs free → FreeFits lines (supplied_at lines inputs free)
 free_fits lines inputs free h =
-    record { fits = λ i l g. subst (λ o. GivenFits (take i lines) l.sort l.op (handed_line o (take i lines) inputs free)) (sym g) (h.fits i l g) }
+    record { fits = λ i l g. subst (λ o. GivenFits (take i lines) l.sort l.op (supplied_line o (take i lines) inputs free)) (sym g) (h.fits i l g) }
 
 -- what is given to inputs and states
 abbrev pub giving : Bool → List Line → List BitVector → List BitVector → List BitVector → Given
 giving begun lines last inputs free =
-    given_of (state_value (value_kind begun) lines) (value_word begun lines last) (handed_at lines inputs free)
+    given_of (state_value (value_kind begun) lines) (value_word begun lines last) (supplied_at lines inputs free)
 
-pub gives : (begun : Bool) (lines : List Line) (last inputs free : List BitVector) → IsWellFormed lines → (IsTrue begun → IsFrame lines last) → HandedFit lines inputs free → GivesWords lines (giving begun lines last inputs free)
-gives true lines last inputs free w f h = next_gives lines w last (handed_at lines inputs free) (f refl) (free_fits lines inputs free h)
-gives false lines last inputs free w f h = first_gives lines w (handed_at lines inputs free) (free_fits lines inputs free h)
+pub gives : (begun : Bool) (lines : List Line) (last inputs free : List BitVector) → IsWellFormed lines → (IsTrue begun → IsFrame lines last) → SuppliedFit lines inputs free → GivesWords lines (giving begun lines last inputs free)
+gives true lines last inputs free w f h = next_gives lines w last (supplied_at lines inputs free) (f refl) (free_fits lines inputs free h)
+gives false lines last inputs free w f h = first_gives lines w (supplied_at lines inputs free) (free_fits lines inputs free h)
 
 -- frame 0 has none before it
 pub no_last : (lines : List Line) → IsTrue false → IsFrame lines []
 no_last lines h = absurd (cc)
 
 -- the words so far are a frame of the lines so far
-pub frame_so_far : (begun : Bool) (lines : List Line) (last inputs free spare : List BitVector) (i : ℕ) → IsWellFormed lines → (IsTrue begun → IsFrame lines last) → HandedFit lines inputs free → i ≤ length lines → take i spare ≡ row_upto lines (giving begun lines last inputs free) i → IsFrame (take i lines) (take i spare)
+pub frame_so_far : (begun : Bool) (lines : List Line) (last inputs free spare : List BitVector) (i : ℕ) → IsWellFormed lines → (IsTrue begun → IsFrame lines last) → SuppliedFit lines inputs free → i ≤ length lines → take i spare ≡ row_upto lines (giving begun lines last inputs free) i → IsFrame (take i lines) (take i spare)
 frame_so_far begun lines last inputs free spare i w f h le e =
     subst (IsFrame (take i lines)) (sym e) (frame_upto lines (giving begun lines last inputs free) w (gives begun lines last inputs free w f h) i le)
 
@@ -123,20 +123,20 @@ one_more begun lines last inputs free spare new i l h g filled put =
     )
 
 -- the row is the next frame
-pub is_step : (begun : Bool) (lines : List Line) (last inputs free : List BitVector) → IsWellFormed lines → (IsTrue begun → IsFrame lines last) → HandedFit lines inputs free → IsStep lines begun last inputs free (row_upto lines (giving begun lines last inputs free) (length lines))
+pub is_step : (begun : Bool) (lines : List Line) (last inputs free : List BitVector) → IsWellFormed lines → (IsTrue begun → IsFrame lines last) → SuppliedFit lines inputs free → IsStep lines begun last inputs free (row_upto lines (giving begun lines last inputs free) (length lines))
 is_step true lines last inputs free w f h =
-    let words = handed_at lines inputs free in
+    let words = supplied_at lines inputs free in
     record {
       frame = whole_frame lines w (giving true lines last inputs free) (gives true lines last inputs free w f h);
       values = next_nexts lines w last words;
-      inputs_read = λ i l g e. reads lines w (state_value is_next lines) (λ r. operand last) words i l g e ∙ ap (λ o. handed_line o (take i lines) inputs free) g ∙ ap (λ op. handed_for op (take i lines) inputs free) e;
-      free_read = λ i l g e n. frees_read lines w (state_value is_next lines) (λ r. operand last) words i l g e n ∙ ap (λ o. handed_line o (take i lines) inputs free) g ∙ ap (λ op. handed_for op (take i lines) inputs free) e;
+      inputs_read = λ i l g e. reads lines w (state_value is_next lines) (λ r. operand last) words i l g e ∙ ap (λ o. supplied_line o (take i lines) inputs free) g ∙ ap (λ op. supplied_for op (take i lines) inputs free) e;
+      free_read = λ i l g e n. frees_read lines w (state_value is_next lines) (λ r. operand last) words i l g e n ∙ ap (λ o. supplied_line o (take i lines) inputs free) g ∙ ap (λ op. supplied_for op (take i lines) inputs free) e;
     }
 is_step false lines last inputs free w f h =
-    let words = handed_at lines inputs free in
+    let words = supplied_at lines inputs free in
     record {
       frame = whole_frame lines w (giving false lines last inputs free) (gives false lines last inputs free w f h);
       values = first_inits lines w words (free_fits lines inputs free h);
-      inputs_read = λ i l g e. reads lines w (state_value is_init lines) (init_operand lines) words i l g e ∙ ap (λ o. handed_line o (take i lines) inputs free) g ∙ ap (λ op. handed_for op (take i lines) inputs free) e;
-      free_read = λ i l g e n. frees_read lines w (state_value is_init lines) (init_operand lines) words i l g e n ∙ ap (λ o. handed_line o (take i lines) inputs free) g ∙ ap (λ op. handed_for op (take i lines) inputs free) e;
+      inputs_read = λ i l g e. reads lines w (state_value is_init lines) (init_operand lines) words i l g e ∙ ap (λ o. supplied_line o (take i lines) inputs free) g ∙ ap (λ op. supplied_for op (take i lines) inputs free) e;
+      free_read = λ i l g e n. frees_read lines w (state_value is_init lines) (init_operand lines) words i l g e n ∙ ap (λ o. supplied_line o (take i lines) inputs free) g ∙ ap (λ op. supplied_for op (take i lines) inputs free) e;
     }

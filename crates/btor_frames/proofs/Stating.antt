@@ -10,13 +10,13 @@ use Rattle.btor_tree.specs.declared.lines.LineOp.TheVariants.{Input, State}
 use Rattle.btor_tree.specs.Fits.{IsWellFormed, count_of, is_input, is_state, width_at, sort_at}
 use Rattle.btor_tree.specs.Frame.{nothing, GivenFits}
 use Rattle.btor_tree.proofs.Widths.{width_small}
-use Rattle.btor_frames.specs.Steps.{handed_for, HandedFit, IsStep}
-use Rattle.btor_frames.specs.Judged.{Statement, stated_or, IsStatedFrame, IsOfLine, StatementFits, HandsStated}
+use Rattle.btor_frames.specs.Steps.{supplied_for, SuppliedFit, IsStep}
+use Rattle.btor_frames.specs.Judged.{Statement, stated_or, IsStatedFrame, IsOfLine, StatementFits, SuppliesStated}
 use Rattle.btor_frames.proofs.Unique.{same_row}
 use Rattle.btor_frames.proofs.Handing.{read_facts}
 
 -- a step by the words of a statement goes to the frame that it means
-pub step_stated : (lines : List Line) (begun : Bool) (last inputs free row : List BitVector) (stated : Statement) → HandsStated lines stated inputs free → IsStep lines begun last inputs free row → IsStatedFrame lines begun last stated row
+pub step_stated : (lines : List Line) (begun : Bool) (last inputs free row : List BitVector) (stated : Statement) → SuppliesStated lines stated inputs free → IsStep lines begun last inputs free row → IsStatedFrame lines begun last stated row
 step_stated lines begun last inputs free row stated h p =
     record {
       frame = p.frame;
@@ -58,13 +58,13 @@ statement_given lines stated i l State w f g e =
     (stated_fits lines i (stated.states (count_of is_state (take i lines))) facts.some (width_small lines i w) (λ x q. f.states i l x g e q))
 statement_given lines stated i l op w f g e = tt
 
-handed_given : (lines : List Line) (stated : Statement) (inputs free : List BitVector) (i : ℕ) (l : Line) (op : LineOp) → IsWellFormed lines → StatementFits lines stated → HandsStated lines stated inputs free → slice_get lines i ≡ Some l → l.op ≡ op → GivenFits (take i lines) l.sort op (handed_for op (take i lines) inputs free)
+handed_given : (lines : List Line) (stated : Statement) (inputs free : List BitVector) (i : ℕ) (l : Line) (op : LineOp) → IsWellFormed lines → StatementFits lines stated → SuppliesStated lines stated inputs free → slice_get lines i ≡ Some l → l.op ≡ op → GivenFits (take i lines) l.sort op (supplied_for op (take i lines) inputs free)
 handed_given lines stated inputs free i l Input w f h g e =
     subst (GivenFits (take i lines) l.sort Input) (sym (h.inputs_stated i l g e)) (statement_given lines stated i l Input w f g e)
 handed_given lines stated inputs free i l State w f h g e =
     subst (GivenFits (take i lines) l.sort State) (sym (h.states_stated i l g e)) (statement_given lines stated i l State w f g e)
 handed_given lines stated inputs free i l op w f h g e = tt
 
-pub hands_fit : (lines : List Line) (stated : Statement) (inputs free : List BitVector) → IsWellFormed lines → StatementFits lines stated → HandsStated lines stated inputs free → length inputs ≡ count_of is_input lines → length free ≡ count_of is_state lines → HandedFit lines inputs free
+pub hands_fit : (lines : List Line) (stated : Statement) (inputs free : List BitVector) → IsWellFormed lines → StatementFits lines stated → SuppliesStated lines stated inputs free → length inputs ≡ count_of is_input lines → length free ≡ count_of is_state lines → SuppliedFit lines inputs free
 hands_fit lines stated inputs free w f h a b =
     record { inputs_long = a; free_long = b; fits = λ i l g. handed_given lines stated inputs free i l l.op w f h g refl }

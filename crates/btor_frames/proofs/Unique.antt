@@ -14,7 +14,7 @@ use Rattle.btor_tree.proofs.Words.{SameBelow, same_equation, computed, one_solut
 use Rattle.btor_tree.proofs.Rows.{row_upto}
 use Rattle.btor_tree.proofs.Widths.{option_cases}
 use Rattle.btor_tree.proofs.Paths.{init_operand_is}
-use Rattle.btor_frames.specs.Steps.{value_kind, value_word, ValuesHold, HandedFit, IsStep}
+use Rattle.btor_frames.specs.Steps.{value_kind, value_word, ValuesHold, SuppliedFit, IsStep}
 use Rattle.btor_frames.specs.Held.{Held, FramesFit}
 use Rattle.btor_frames.proofs.Lines.{value_same}
 use Rattle.btor_frames.proofs.Loop.{giving, is_step}
@@ -89,7 +89,7 @@ only lines begun last inputs free row other w p q =
     (λ i l g e. p.inputs_read i l g e ∙ sym (q.inputs_read i l g e))
     (λ i l g e n. p.free_read i l g e n ∙ sym (q.free_read i l g e n))
 
-pub stepped : (lines : List Line) (held : Held) (b : Bool) (r inputs free x : List BitVector) (found : _) → record { begun = b; row = r; found = found } ≡ held → IsWellFormed lines → FramesFit lines held → HandedFit lines inputs free → x ≡ row_upto lines (giving b lines r inputs free) (length lines) → IsStep lines held.begun held.row inputs free x
+pub stepped : (lines : List Line) (held : Held) (b : Bool) (r inputs free x : List BitVector) (found : _) → record { begun = b; row = r; found = found } ≡ held → IsWellFormed lines → FramesFit lines held → SuppliedFit lines inputs free → x ≡ row_upto lines (giving b lines r inputs free) (length lines) → IsStep lines held.begun held.row inputs free x
 stepped lines held b r inputs free x found e w f h ex =
     let fits : FramesFit lines (record { begun = b; row = r; found = found }) = subst (FramesFit lines) (sym e) f in
     subst (λ k. IsStep lines k.begun k.row inputs free x) e (subst (IsStep lines b r inputs free) (sym ex) (is_step b lines r inputs free w fits.framed h))

@@ -30,17 +30,17 @@ value_word true lines last row a = operand last a
 value_word false lines last row a = init_operand lines row a
 
 -- the word that is handed in for a line: inputs and states have one each, in order
-abbrev pub handed_for : LineOp → List Line → List BitVector → List BitVector → BitVector
-handed_for Input before inputs free = word_at inputs (count_of is_input before)
-handed_for State before inputs free = word_at free (count_of is_state before)
-handed_for op before inputs free = nothing
+abbrev pub supplied_for : LineOp → List Line → List BitVector → List BitVector → BitVector
+supplied_for Input before inputs free = word_at inputs (count_of is_input before)
+supplied_for State before inputs free = word_at free (count_of is_state before)
+supplied_for op before inputs free = nothing
 
-abbrev pub handed_line : Option Line → List Line → List BitVector → List BitVector → BitVector
-handed_line None before inputs free = nothing
-handed_line (Some l) before inputs free = handed_for l.op before inputs free
+abbrev pub supplied_line : Option Line → List Line → List BitVector → List BitVector → BitVector
+supplied_line None before inputs free = nothing
+supplied_line (Some l) before inputs free = supplied_for l.op before inputs free
 
-abbrev pub handed_at : List Line → List BitVector → List BitVector → ℕ → BitVector
-handed_at lines inputs free i = handed_line (slice_get lines i) (take i lines) inputs free
+abbrev pub supplied_at : List Line → List BitVector → List BitVector → ℕ → BitVector
+supplied_at lines inputs free i = supplied_line (slice_get lines i) (take i lines) inputs free
 
 -- the row is the frame after `last`, or frame 0 where none has begun, with these words of inputs and of states without a value
 pub record IsStep (lines : List Line) (begun : Bool) (last inputs free row : List BitVector) : Type 0 where
@@ -50,7 +50,7 @@ pub record IsStep (lines : List Line) (begun : Bool) (last inputs free row : Lis
   pub free_read : (i : ℕ) (l : Line) → slice_get lines i ≡ Some l → l.op ≡ State → state_value (value_kind begun) lines i ≡ None → word_at row i ≡ word_at free (count_of is_state (take i lines))
 
 -- one word for each input line and one for each state line, of their widths
-pub record HandedFit (lines : List Line) (inputs free : List BitVector) : Type 0 where
+pub record SuppliedFit (lines : List Line) (inputs free : List BitVector) : Type 0 where
   pub inputs_long : length inputs ≡ count_of is_input lines
   pub free_long : length free ≡ count_of is_state lines
-  pub fits : (i : ℕ) (l : Line) → slice_get lines i ≡ Some l → GivenFits (take i lines) l.sort l.op (handed_for l.op (take i lines) inputs free)
+  pub fits : (i : ℕ) (l : Line) → slice_get lines i ≡ Some l → GivenFits (take i lines) l.sort l.op (supplied_for l.op (take i lines) inputs free)

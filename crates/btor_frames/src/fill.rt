@@ -8,9 +8,9 @@ ghost use Rattle.btor_tree.proofs.Words.{computed};
 ghost use Rattle.btor_tree.proofs.Rows.{row_upto};
 ghost use Rattle.btor_tree.proofs.Paths.{constant_at, pick, given_of};
 ghost use Rattle.btor_frames.specs.Tables.{IsFoundIn};
-ghost use Rattle.btor_frames.specs.Steps.{handed_at, HandedFit};
+ghost use Rattle.btor_frames.specs.Steps.{supplied_at, SuppliedFit};
 
-use crate::handed::{handed_word, is_given, with_input, with_state, word_of, word_or};
+use crate::handed::{is_given, supplied_word, with_input, with_state, word_of, word_or};
 use crate::tables::Tables;
 use crate::words::Words;
 use btor_tree::{Arg, Args, Line, LineOp, Nodes};
@@ -96,10 +96,10 @@ fn state_word(
     requires found { IsFoundIn nodes.now tables.now }
     requires input_is { input ≡ count_of is_input (take i nodes.now) }
     requires state_is { state ≡ count_of is_state (take i nodes.now) }
-    ensures { result ≡ read_or (state_value is_init nodes.now i) (init_operand nodes.now (take i spare.now)) (handed_at nodes.now inputs.now free.now i) }
+    ensures { result ≡ read_or (state_value is_init nodes.now i) (init_operand nodes.now (take i spare.now)) (supplied_at nodes.now inputs.now free.now i) }
 {
     match tables.init(i) {
-        None => handed_word(nodes, i, inputs, free, input, state),
+        None => supplied_word(nodes, i, inputs, free, input, state),
         Some(a) => init_operand(nodes, spare, &a),
     }
 }
@@ -123,12 +123,12 @@ fn given_word(
     requires input_is { input ≡ count_of is_input (take i nodes.now) }
     requires state_is { state ≡ count_of is_state (take i nodes.now) }
     ensures { IfSome (slice_get nodes.now i) (λ l. result ≡ pick l.op (state_value is_init nodes.now i)
-        (init_operand nodes.now (take i spare.now)) (handed_at nodes.now inputs.now free.now i)) }
+        (init_operand nodes.now (take i spare.now)) (supplied_at nodes.now inputs.now free.now i)) }
 {
     match nodes.at(i).op {
         LineOp::State => state_word(nodes, tables, i, spare, inputs, free, input, state),
         LineOp::Input => word_or(inputs, input),
-        _ => handed_word(nodes, i, inputs, free, input, state),
+        _ => supplied_word(nodes, i, inputs, free, input, state),
     }
 }
 
@@ -304,7 +304,7 @@ fn put_word(
     requires few_states { state < 2 ^ 63 }
     requires frame { IsFrame (take i nodes.now) (take i spare.old) }
     ensures word { IfSome (slice_get nodes.now i) (λ l. spare.new ≡ slice_set spare.old i (computed (take i nodes.now) (take i spare.old) l.sort l.op l.args
-        (given_of (state_value is_init nodes.now) (init_operand nodes.now) (handed_at nodes.now inputs.now free.now) l.op i (take i spare.old)))) }
+        (given_of (state_value is_init nodes.now) (init_operand nodes.now) (supplied_at nodes.now inputs.now free.now) l.op i (take i spare.old)))) }
     ensures next_input { result.0 ≡ input + (if is_input line.now.op then 1 else 0) }
     ensures next_state { result.1 ≡ state + (if is_state line.now.op then 1 else 0) }
 {
@@ -322,9 +322,9 @@ fn put_word(
 pub fn fill_first(nodes: &Nodes, tables: &Tables, inputs: &Words, free: &Words, spare: &mut Words)
     requires long { length spare.old ≡ length nodes.now }
     requires found { IsFoundIn nodes.now tables.now }
-    requires handed { HandedFit nodes.now inputs.now free.now }
+    requires handed { SuppliedFit nodes.now inputs.now free.now }
     ensures { spare.new ≡ row_upto nodes.now (given_of (state_value is_init nodes.now)
-        (init_operand nodes.now) (handed_at nodes.now inputs.now free.now)) (length nodes.now) }
+        (init_operand nodes.now) (supplied_at nodes.now inputs.now free.now)) (length nodes.now) }
 {
     let mut input = 0usize;
     let mut state = 0usize;

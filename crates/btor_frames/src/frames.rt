@@ -3,7 +3,7 @@ ghost use Rattle.std.specs.Prelude.{◌≡◌, ◌<◌, ◌↔◌, ℕ, Bool, tr
 ghost use Rattle.word_core.specs.Words.{BitVector};
 ghost use Rattle.btor_tree.specs.Fits.{count_of, is_bad, is_constraint};
 ghost use Rattle.btor_tree.specs.Frame.{word_at, operand, true_word, ConstraintsHold, IsBad};
-ghost use Rattle.btor_frames.specs.Steps.{IsStep, HandedFit};
+ghost use Rattle.btor_frames.specs.Steps.{IsStep, SuppliedFit};
 ghost use Rattle.btor_frames.specs.Held.{Held, FramesFit};
 ghost use Rattle.btor_frames.specs.Sources.{HoldsNothing};
 
@@ -66,7 +66,7 @@ impl Frames {
     /// allocates nothing.
     pub fn step(&mut self, nodes: &Nodes, inputs: &Words, free: &Words)
         requires fits { FramesFit nodes.now self.old }
-        requires handed { HandedFit nodes.now inputs.now free.now }
+        requires handed { SuppliedFit nodes.now inputs.now free.now }
         ensures fits { FramesFit nodes.now self.new }
         ensures begun { self.new.begun ≡ true }
         ensures next { IsStep nodes.now self.old.begun self.old.row inputs.now free.now self.new.row }

@@ -3,7 +3,7 @@ ghost use Rattle.std.specs.Prelude.{◌≡◌, ◌<◌, ◌+◌, ◌^◌, ◌↔
 ghost use Rattle.word_core.specs.Words.{IsWord};
 ghost use Rattle.btor_tree.specs.Fits.{IsWellFormed, count_of, is_input, is_state};
 ghost use Rattle.btor_tree.specs.Frame.{word_at, GivenFits};
-ghost use Rattle.btor_frames.specs.Steps.{handed_at, is_given, HandedFit};
+ghost use Rattle.btor_frames.specs.Steps.{supplied_at, is_given, SuppliedFit};
 
 use crate::words::Words;
 use btor_tree::{Line, LineOp, Nodes};
@@ -38,7 +38,7 @@ pub fn is_given(op: &LineOp) -> bool
 
 // The word that the caller gives for a line after `input` inputs and `state` states.
 #[inline(always)]
-pub fn handed_word(
+pub fn supplied_word(
     nodes: &Nodes,
     i: usize,
     inputs: &Words,
@@ -49,7 +49,7 @@ pub fn handed_word(
     requires inside { i < length nodes.now }
     requires input_is { input ≡ count_of is_input (take i nodes.now) }
     requires state_is { state ≡ count_of is_state (take i nodes.now) }
-    ensures { result ≡ handed_at nodes.now inputs.now free.now i }
+    ensures { result ≡ supplied_at nodes.now inputs.now free.now i }
 {
     match nodes.at(i).op {
         LineOp::Input => word_or(inputs, input),
@@ -96,12 +96,12 @@ fn line_fits(nodes: &Nodes, i: usize, word: Word) -> bool
 ///
 /// `Frames::step` requires such words.
 pub fn words_fit(nodes: &Nodes, inputs: &Words, free: &Words) -> bool
-    ensures { IsTrue result ↔ HandedFit nodes.now inputs.now free.now }
+    ensures { IsTrue result ↔ SuppliedFit nodes.now inputs.now free.now }
 {
     let mut input = 0usize;
     let mut state = 0usize;
     for i in 0..nodes.len() {
-        let handed = handed_word(nodes, i, inputs, free, input, state);
+        let handed = supplied_word(nodes, i, inputs, free, input, state);
         if !line_fits(nodes, i, handed) {
             return false;
         }

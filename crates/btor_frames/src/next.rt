@@ -9,7 +9,7 @@ ghost use Rattle.btor_tree.proofs.Rows.{row_upto};
 ghost use Rattle.btor_tree.proofs.Paths.{given_of};
 ghost use Rattle.btor_frames.specs.declared.sources.Source.TheVariants.{NoWord};
 ghost use Rattle.btor_frames.specs.Sources.{IsBlank, IsSource};
-ghost use Rattle.btor_frames.specs.Steps.{handed_at, value_kind, value_word, HandedFit};
+ghost use Rattle.btor_frames.specs.Steps.{supplied_at, value_kind, value_word, SuppliedFit};
 ghost use Rattle.btor_frames.specs.Tables.{IsFoundIn};
 
 use crate::fill::{and_word, eq_word, fill_first, operand, or_word, put_computed};
@@ -73,7 +73,7 @@ fn put_source(
     requires blank { source ≡ NoWord → word_at spare.old i ≡ nothing }
     requires frame { IsFrame (take i nodes.now) (take i spare.old) }
     ensures { IfSome (slice_get nodes.now i) (λ l. spare.new ≡ slice_set spare.old i (computed (take i nodes.now) (take i spare.old) l.sort l.op l.args
-        (given_of (state_value (value_kind true) nodes.now) (value_word true nodes.now last.now) (handed_at nodes.now inputs.now free.now) l.op i (take i spare.old)))) }
+        (given_of (state_value (value_kind true) nodes.now) (value_word true nodes.now last.now) (supplied_at nodes.now inputs.now free.now) l.op i (take i spare.old)))) }
 {
     match source {
         Source::NoWord => {}
@@ -100,10 +100,10 @@ fn fill_next(
     requires last_long { length last.now ≡ length nodes.now }
     requires last_frame { IsFrame nodes.now last.now }
     requires found { IsFoundIn nodes.now tables.now }
-    requires handed { HandedFit nodes.now inputs.now free.now }
+    requires handed { SuppliedFit nodes.now inputs.now free.now }
     requires blank { IsBlank tables.now.sources spare.old }
     ensures { spare.new ≡ row_upto nodes.now (given_of (state_value (value_kind true) nodes.now)
-        (value_word true nodes.now last.now) (handed_at nodes.now inputs.now free.now)) (length nodes.now) }
+        (value_word true nodes.now last.now) (supplied_at nodes.now inputs.now free.now)) (length nodes.now) }
 {
     for i in 0..nodes.len() {
         put_source(nodes, tables.source(i), i, last, inputs, free, spare);
@@ -126,10 +126,10 @@ pub fn fill(
     requires last_long { length last.now ≡ length nodes.now }
     requires last_frame { IsTrue begun → IsFrame nodes.now last.now }
     requires found { IsFoundIn nodes.now tables.now }
-    requires handed { HandedFit nodes.now inputs.now free.now }
+    requires handed { SuppliedFit nodes.now inputs.now free.now }
     requires blank { IsBlank tables.now.sources spare.old }
     ensures row { spare.new ≡ row_upto nodes.now (given_of (state_value (value_kind begun) nodes.now)
-        (value_word begun nodes.now last.now) (handed_at nodes.now inputs.now free.now)) (length nodes.now) }
+        (value_word begun nodes.now last.now) (supplied_at nodes.now inputs.now free.now)) (length nodes.now) }
     ensures blank { IsBlank tables.now.sources spare.new }
 {
     // This call's contract says that the lines are well-formed.

@@ -21,7 +21,7 @@ use Rattle.btor_judge.specs.declared.reader.Reader.{Reader}
 use Rattle.btor_judge.specs.declared.reader.Stage.{Stage}
 use Rattle.btor_judge.specs.declared.reader.Stage.TheVariants.{Going, Done, Refused, TooLong}
 use Rattle.btor_judge.specs.Standing.{Does}
-use Rattle.btor_judge.specs.Judging.{closed, MayCome, place_of, IsReading, IsDone, IsStopped, StandsAt, Answers}
+use Rattle.btor_judge.specs.Judging.{closed, MayCome, place_of, IsReading, IsDone, IsStopped, RepresentsAt, Answers}
 use Rattle.btor_judge.proofs.Pieces.{line_alone, place_now, read_here, refused_here, not_yet}
 
 -- nothing more comes
@@ -44,7 +44,7 @@ ends_early lines judge text reader h does =
     }
 
 pub ends_there : (lines : List Line) (judge : Judge) (text : List ℕ) (reader : Reader) (stage : Stage) → (stage ≡ Going → ⊥) → (h : IsReading lines judge text) → Does lines h.reading (next_of (sizes_of lines) h.reading (line_parts h.current)) reader stage
-    → StandsAt lines (closed (record judge { reader = reader; stage = stage })) text stage
+    → RepresentsAt lines (closed (record judge { reader = reader; stage = stage })) text stage
 ends_there lines judge text reader Going other h does = absurd (other refl)
 ends_there lines judge text reader Done other h does =
     record {
@@ -66,7 +66,7 @@ ends_there lines judge text reader (Refused kind) other h does =
 ends_there lines judge text reader TooLong other h does = absurd does
 
 -- the end behind the witness or a refusal
-pub closes : (lines : List Line) (judge : Judge) (text : List ℕ) (stage : Stage) → judge.ended ≡ false → (stage ≡ Going → ⊥) → StandsAt lines judge text stage → StandsAt lines (closed judge) text stage
+pub closes : (lines : List Line) (judge : Judge) (text : List ℕ) (stage : Stage) → judge.ended ≡ false → (stage ≡ Going → ⊥) → RepresentsAt lines judge text stage → RepresentsAt lines (closed judge) text stage
 closes lines judge text Going e other h = absurd (other refl)
 closes lines judge text Done e other h =
     record { counted = h.counted; short = h.short; witness = h.witness; judged = h.judged; reads = λ more may. h.reads more (not_yet {e = judge.ended} {more = more} e) }
@@ -100,7 +100,7 @@ refused_answer lines judge text kind h = (
 long_answer : (lines : List Line) (text : List ℕ) → most_bytes < length text → Answers lines text (Bad (record { kind = X 8; place = record { line = 1; column = 1; offset = 0 } }))
 long_answer lines text long = (inl (long, refl, refl), refl)
 
-pub other_answer : (lines : List Line) (judge : Judge) (text : List ℕ) (stage : Stage) → (stage ≡ Done → ⊥) → ((kind : Kind) → stage ≡ Refused kind → ⊥) → judge.ended ≡ true → StandsAt lines judge text stage → Answers lines text (Bad (record { kind = X 8; place = record { line = 1; column = 1; offset = 0 } }))
+pub other_answer : (lines : List Line) (judge : Judge) (text : List ℕ) (stage : Stage) → (stage ≡ Done → ⊥) → ((kind : Kind) → stage ≡ Refused kind → ⊥) → judge.ended ≡ true → RepresentsAt lines judge text stage → Answers lines text (Bad (record { kind = X 8; place = record { line = 1; column = 1; offset = 0 } }))
 other_answer lines judge text Going d r e h = absurd (let g : true ≡ false = sym e ∙ h.unended in cc)
 other_answer lines judge text Done d r e h = absurd (d refl)
 other_answer lines judge text (Refused kind) d r e h = absurd (r kind refl)

@@ -15,7 +15,7 @@ use Rattle.btor_witness.specs.Parts.{is_stated, with_word, with_width, stating}
 use Rattle.btor_witness.specs.Printing.{value_of}
 use Rattle.btor_witness.specs.Room.{zero_of}
 use Rattle.btor_witness.proofs.Tables.{value_more}
-use Rattle.btor_judge.specs.Kept.{Kept, kept, Holds, IsClearing}
+use Rattle.btor_judge.specs.Kept.{StatedPart, kept, Holds, IsClearing}
 
 stated_push : (xs : List Stated) (s : Stated) (k : ℕ) → is_stated (xs ++ s ∷ []) k ≡ is_stated xs k || eqb s.index k
 stated_push [] s k = elim (cases_Bool (eqb s.index k)) [ inl t ↦ rw t refl | inr f ↦ rw f refl ]
@@ -30,7 +30,7 @@ or_some true = refl
 or_some false = refl
 
 -- one statement more
-pub holds_more : (kept : Kept) (xs : List Stated) (s : Stated) → Holds kept xs → s.index < length kept.marks → s.index < length kept.words → Holds (record { widths = kept.widths; marks = set kept.marks s.index true; words = set kept.words s.index s.value }) (xs ++ s ∷ [])
+pub holds_more : (kept : StatedPart) (xs : List Stated) (s : Stated) → Holds kept xs → s.index < length kept.marks → s.index < length kept.words → Holds (record { widths = kept.widths; marks = set kept.marks s.index true; words = set kept.words s.index s.value }) (xs ++ s ∷ [])
 holds_more kept xs s h in_marks in_words =
     record {
       marks = λ k.
@@ -71,7 +71,7 @@ value_none (s ∷ ss) k h =
     let p = or_parts (eqb s.index k) (is_stated ss k) h in
     ap (λ o. option_or o (cond (eqb s.index k) (Some s.value) None)) (value_none ss k p.1) ∙ cond-false (eqb s.index k) (Some s.value) None p.0
 
-pub clearing_begun : (kept : Kept) (stated : List Stated) → Holds kept stated → IsClearing 0 kept
+pub clearing_begun : (kept : StatedPart) (stated : List Stated) → Holds kept stated → IsClearing 0 kept
 clearing_begun kept stated h =
     record {
       before = λ i lt. absurd (omega (arith, lt));
@@ -114,7 +114,7 @@ clearing_unmarked n widths marks words f h =
       cleared = h.cleared;
     }
 
-pub is_clear : (n : ℕ) (kept : Kept) → length kept.marks ≤ n → length kept.words ≡ length kept.widths → IsClearing n kept → Holds kept []
+pub is_clear : (n : ℕ) (kept : StatedPart) → length kept.marks ≤ n → length kept.words ≡ length kept.widths → IsClearing n kept → Holds kept []
 is_clear n kept long sized h =
     let none : (i : ℕ) → get_or kept.marks i false ≡ false = λ i. elim (cases_lt i n) [ inl lt ↦ h.before i lt | inr le ↦ get_or_past kept.marks i false (omega (arith, le, long)) ] in
     record { marks = none; words = record { sized = sized; by_index = λ i w g. h.cleared i w g (none i) } }

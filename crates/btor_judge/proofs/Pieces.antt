@@ -20,7 +20,7 @@ use Rattle.btor_judge.specs.declared.reader.Stage.{Stage}
 use Rattle.btor_judge.specs.declared.reader.Stage.TheVariants.{Going, Done, Refused, TooLong}
 use Rattle.btor_judge.specs.Scanning.{line_of, line_next}
 use Rattle.btor_judge.specs.Standing.{IsAt, Does}
-use Rattle.btor_judge.specs.Judging.{is_one_line, counted, MayCome, place_of, IsReading, BeginsLine, StandsAt}
+use Rattle.btor_judge.specs.Judging.{is_one_line, counted, MayCome, place_of, IsReading, BeginsLine, RepresentsAt}
 use Rattle.btor_judge.proofs.ScanLaws.{line_push}
 
 -- bytes of one line
@@ -147,7 +147,7 @@ refused_here lines judge text more kind rest h e d =
     h.refuses more kind (judge.lines + 1) (subst (λ (x : Parts). Refuses judge.lines sizes h.reading x kind (judge.lines + 1)) (sym e) (here (next_from sizes h.reading (line_parts h.current) (bad kind) d)))
 
 pub ends_line : (lines : List Line) (judge : Judge) (text : List ℕ) (reader : Reader) (stage : Stage) → length text < most_bytes → (stage ≡ Going → ⊥) → (h : IsReading lines judge text) → Does lines h.reading (next_of (sizes_of lines) h.reading (line_parts h.current)) reader stage
-    → StandsAt lines (counted (record judge { reader = reader; stage = stage })) (text ++ 10 ∷ []) stage
+    → RepresentsAt lines (counted (record judge { reader = reader; stage = stage })) (text ++ 10 ∷ []) stage
 ends_line lines judge text reader Going lt other h does = absurd (other refl)
 ends_line lines judge text reader Done lt other h does =
     let long = length_push text 10 in
@@ -199,7 +199,7 @@ whole_goes_on lines judge text raw start one h =
     }
 
 -- what is kept of the current line is not read behind its end
-line_aside : (lines : List Line) (judge : Judge) (line : ScannedLine) (text : List ℕ) (stage : Stage) → (stage ≡ Going → ⊥) → StandsAt lines (record judge { line = line }) text stage → StandsAt lines judge text stage
+line_aside : (lines : List Line) (judge : Judge) (line : ScannedLine) (text : List ℕ) (stage : Stage) → (stage ≡ Going → ⊥) → RepresentsAt lines (record judge { line = line }) text stage → RepresentsAt lines judge text stage
 line_aside lines judge line text Going other h = absurd (other refl)
 line_aside lines judge line text Done other h = record { counted = h.counted; short = h.short; witness = h.witness; judged = h.judged; reads = h.reads }
 line_aside lines judge line text (Refused kind) other h = record { counted = h.counted; short = h.short; numbered = h.numbered; within = h.within; refuses = h.refuses; placed = h.placed }
@@ -222,20 +222,20 @@ whole_next lines judge text raw reader start one h does =
     (subst (IsReading lines (counted (record judge { reader = reader; line = line_of []; stage = Going; bytes = judge.bytes + length raw; lines = judge.lines + 1; offset = judge.bytes + length raw + 1 }))) same on)
 
 pub whole_ends : (lines : List Line) (judge : Judge) (text raw : List ℕ) (reader : Reader) (stage : Stage) → BeginsLine judge raw → is_one_line raw ≡ true → (stage ≡ Going → ⊥) → (h : IsReading lines judge text) → Does lines h.reading (next_of (sizes_of lines) h.reading (line_parts raw)) reader stage
-    → StandsAt lines (counted (record judge { reader = reader; stage = stage; bytes = judge.bytes + length raw })) (text ++ (raw ++ 10 ∷ [])) stage
+    → RepresentsAt lines (counted (record judge { reader = reader; stage = stage; bytes = judge.bytes + length raw })) (text ++ (raw ++ 10 ∷ [])) stage
 unfolding whole_goes_on
 whole_ends lines judge text raw reader stage start one other h does =
     let at = whole_goes_on lines judge text raw start one h in
     let lt : length (text ++ raw) < most_bytes = omega (arith, start.short, h.counted, length-append text raw) in
     let on = ends_line lines (record judge { line = line_of raw; bytes = judge.bytes + length raw }) (text ++ raw) reader stage lt other at does in
     line_aside lines (counted (record judge { reader = reader; stage = stage; bytes = judge.bytes + length raw })) (line_of raw) (text ++ (raw ++ 10 ∷ [])) stage other
-    (subst (λ (x : List ℕ). StandsAt lines (counted (record judge { reader = reader; line = line_of raw; stage = stage; bytes = judge.bytes + length raw })) x stage) (append_assoc text raw (10 ∷ [])) on)
+    (subst (λ (x : List ℕ). RepresentsAt lines (counted (record judge { reader = reader; line = line_of raw; stage = stage; bytes = judge.bytes + length raw })) x stage) (append_assoc text raw (10 ∷ [])) on)
 
 -- behind the end of the witness and behind a refusal
 pub not_yet : {e : Bool} {more : List ℕ} → e ≡ false → MayCome e more
 not_yet e t = absurd (let g : true ≡ false = sym t ∙ e in cc)
 
-pub passes_byte : (lines : List Line) (judge : Judge) (text : List ℕ) (b : ℕ) (stage : Stage) → judge.ended ≡ false → length text < most_bytes → (stage ≡ Going → ⊥) → (stage ≡ TooLong → ⊥) → StandsAt lines judge text stage → StandsAt lines (counted judge) (text ++ b ∷ []) stage
+pub passes_byte : (lines : List Line) (judge : Judge) (text : List ℕ) (b : ℕ) (stage : Stage) → judge.ended ≡ false → length text < most_bytes → (stage ≡ Going → ⊥) → (stage ≡ TooLong → ⊥) → RepresentsAt lines judge text stage → RepresentsAt lines (counted judge) (text ++ b ∷ []) stage
 passes_byte lines judge text b Going e lt other none h = absurd (other refl)
 passes_byte lines judge text b Done e lt other none h =
     let long = length_push text b in
@@ -259,13 +259,13 @@ passes_byte lines judge text b (Refused kind) e lt other none h =
 passes_byte lines judge text b TooLong e lt other none h = absurd (none refl)
 
 -- the limit
-pub long_enough : (lines : List Line) (judge : Judge) (text : List ℕ) (stage : Stage) → most_bytes ≤ judge.bytes → StandsAt lines judge text stage → most_bytes ≤ length text
+pub long_enough : (lines : List Line) (judge : Judge) (text : List ℕ) (stage : Stage) → most_bytes ≤ judge.bytes → RepresentsAt lines judge text stage → most_bytes ≤ length text
 long_enough lines judge text Going le h = omega (arith, le, h.counted)
 long_enough lines judge text Done le h = omega (arith, le, h.counted)
 long_enough lines judge text (Refused kind) le h = omega (arith, le, h.counted)
 long_enough lines judge text TooLong le h = omega (arith, h.0)
 
-pub short_enough : (lines : List Line) (judge : Judge) (text : List ℕ) (stage : Stage) → judge.bytes < most_bytes → StandsAt lines judge text stage → (length text < most_bytes) × (stage ≡ TooLong → ⊥)
+pub short_enough : (lines : List Line) (judge : Judge) (text : List ℕ) (stage : Stage) → judge.bytes < most_bytes → RepresentsAt lines judge text stage → (length text < most_bytes) × (stage ≡ TooLong → ⊥)
 short_enough lines judge text Going lt h = (omega (arith, lt, h.counted), λ e. absurd (cc))
 short_enough lines judge text Done lt h = (omega (arith, lt, h.counted), λ e. absurd (cc))
 short_enough lines judge text (Refused kind) lt h = (omega (arith, lt, h.counted), λ e. absurd (cc))

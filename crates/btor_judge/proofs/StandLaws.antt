@@ -14,7 +14,7 @@ use Rattle.btor_tree.proofs.Widths.{option_cases}
 use Rattle.btor_frames.specs.Held.{Held, FramesFit}
 use Rattle.btor_frames.specs.Judged.{stated_or, IsStatedFrame}
 use Rattle.btor_frames.proofs.Stating.{step_stated}
-use Rattle.btor_frames.specs.Steps.{HandedFit, IsStep}
+use Rattle.btor_frames.specs.Steps.{SuppliedFit, IsStep}
 use Rattle.btor_witness.specs.declared.phase.Phase.{Phase}
 use Rattle.btor_witness.specs.declared.phase.Phase.TheVariants as phase
 use Rattle.btor_witness.specs.declared.witness.Stated.{Stated}
@@ -32,14 +32,14 @@ use Rattle.btor_witness.proofs.Places.{length_places, place_inside}
 use Rattle.btor_witness.proofs.Statements.{value_all, value_once, all_from}
 use Rattle.btor_witness.proofs.Judgement.{hands, handed_fit}
 use Rattle.btor_judge.specs.declared.reader.Reader.{Reader}
-use Rattle.btor_judge.specs.Kept.{Kept, Holds}
-use Rattle.btor_judge.specs.Standing.{ReaderFits, AreJudged, IsAt, StandsIn, HasFrame, AgreesAt}
+use Rattle.btor_judge.specs.Kept.{StatedPart, Holds}
+use Rattle.btor_judge.specs.Standing.{ReaderFits, AreJudged, IsAt, RepresentsIn, HasFrame, AgreesAt}
 
 -- the words of a part, over the widths of the lines
-pub holds_words : (kept : Kept) (widths : List ℕ) (stated : List Stated) → kept.widths ≡ widths → Holds kept stated → HoldsStated widths stated kept.words
+pub holds_words : (kept : StatedPart) (widths : List ℕ) (stated : List Stated) → kept.widths ≡ widths → Holds kept stated → HoldsStated widths stated kept.words
 holds_words kept widths stated e h = subst (λ ws. HoldsStated ws stated kept.words) e h.words
 
-pub frame_handed : (lines : List Line) (reader : Reader) (f : Frame) → IsWellFormed lines → HasFrame lines reader f → HandedFit lines reader.inputs.words reader.states.words
+pub frame_handed : (lines : List Line) (reader : Reader) (f : Frame) → IsWellFormed lines → HasFrame lines reader f → SuppliedFit lines reader.inputs.words reader.states.words
 frame_handed lines reader f w h =
     handed_fit lines f reader.inputs.words reader.states.words w h.inputs_fit h.states_fit
     (holds_words reader.inputs (widths_of is_input lines) f.inputs h.fits.inputs h.inputs)
@@ -50,7 +50,7 @@ in_frame : (sizes : Sizes) (n : ℕ) (p : Phase) → (p ≡ phase.States) ⊎ (p
 in_frame sizes n p (inl e) h = subst (BadFits sizes n) e h
 in_frame sizes n p (inr e) h = subst (BadFits sizes n) e h
 
-pub has_frame : (lines : List Line) (reader : Reader) (r : Reading) → (reader.phase ≡ phase.States) ⊎ (reader.phase ≡ phase.Inputs) → StandsIn lines reader r → HasFrame lines reader (last_frame r)
+pub has_frame : (lines : List Line) (reader : Reader) (r : Reading) → (reader.phase ≡ phase.States) ⊎ (reader.phase ≡ phase.Inputs) → RepresentsIn lines reader r → HasFrame lines reader (last_frame r)
 has_frame lines reader r e h =
     let at = h.0 in
     let there : (r.phase ≡ phase.States) ⊎ (r.phase ≡ phase.Inputs) = elim e [ inl s ↦ inl (sym at.same_phase ∙ s) | inr i ↦ inr (sym at.same_phase ∙ i) ] in
@@ -71,7 +71,7 @@ frames_more phase.Heading r = omega arith
 frames_more phase.States r = omega (arith, length_push r.frames (last_frame r))
 frames_more phase.Inputs r = omega (arith, length_push r.frames (last_frame r))
 
-pub few_frames : (lines : List Line) (reader : Reader) (r : Reading) → StandsIn lines reader r → reader.count < 2 ^ 31
+pub few_frames : (lines : List Line) (reader : Reader) (r : Reading) → RepresentsIn lines reader r → reader.count < 2 ^ 31
 few_frames lines reader r h =
     let n = length (frames_at r.phase r) in
     let few : n ≤ most_frames = leb-true n most_frames (and_parts (leb n most_frames) _ h.1.within).0 in
@@ -93,12 +93,12 @@ stated_value (s ∷ ss) k h =
     ]
 
 -- the stated word of a number
-word_kept : (widths : List ℕ) (kept : Kept) (stated : List Stated) (k : ℕ) (x : BitVector) → kept.widths ≡ widths → Holds kept stated → AllByRecursion (IsOf widths) stated → value_of stated k ≡ Some x → word_at kept.words k ≡ x
+word_kept : (widths : List ℕ) (kept : StatedPart) (stated : List Stated) (k : ℕ) (x : BitVector) → kept.widths ≡ widths → Holds kept stated → AllByRecursion (IsOf widths) stated → value_of stated k ≡ Some x → word_at kept.words k ≡ x
 word_kept widths kept stated k x e h all v =
     let of = value_all (IsOf widths) stated k x all v in
     h.words.by_index k x.width (ap (λ ws. slice_get ws k) e ∙ of.0) ∙ ap (λ o. stated_or o x.width) v
 
-pub all_agree_from : (lines : List Line) (row : List BitVector) (kept : Kept) (stated : List Stated) (n : ℕ) → kept.widths ≡ widths_of is_state lines → Holds kept stated → IsPart (widths_of is_state lines) stated → n ≡ length (places_of is_state lines) → ((k : ℕ) → k < n → AgreesAt (places_of is_state lines) row kept k) → AllByRecursion (IsWordThere (places_of is_state lines) row) stated
+pub all_agree_from : (lines : List Line) (row : List BitVector) (kept : StatedPart) (stated : List Stated) (n : ℕ) → kept.widths ≡ widths_of is_state lines → Holds kept stated → IsPart (widths_of is_state lines) stated → n ≡ length (places_of is_state lines) → ((k : ℕ) → k < n → AgreesAt (places_of is_state lines) row kept k) → AllByRecursion (IsWordThere (places_of is_state lines) row) stated
 all_agree_from lines row kept stated n e h part long agrees =
     all_from (IsWordThere (places_of is_state lines) row) stated (λ i s at place there.
     let marked : get_or kept.marks s.index false ≡ true = h.marks s.index ∙ stated_at stated i s (slice_get_within stated i s at) (get_or_from_slice_get stated i s s at) in
@@ -106,7 +106,7 @@ all_agree_from lines row kept stated n e h part long agrees =
     let value = value_once stated i s part.1 at in
     agrees s.index (omega (arith, long, inside)) marked place there ∙ word_kept (widths_of is_state lines) kept stated s.index s.value e h part.0 value)
 
-pub agrees_there : (lines : List Line) (row : List BitVector) (kept : Kept) (stated : List Stated) (k : ℕ) → kept.widths ≡ widths_of is_state lines → Holds kept stated → IsPart (widths_of is_state lines) stated → AllByRecursion (IsWordThere (places_of is_state lines) row) stated → AgreesAt (places_of is_state lines) row kept k
+pub agrees_there : (lines : List Line) (row : List BitVector) (kept : StatedPart) (stated : List Stated) (k : ℕ) → kept.widths ≡ widths_of is_state lines → Holds kept stated → IsPart (widths_of is_state lines) stated → AllByRecursion (IsWordThere (places_of is_state lines) row) stated → AgreesAt (places_of is_state lines) row kept k
 agrees_there lines row kept stated k e h part all = λ marked place there.
     let v = stated_value stated k (sym (h.marks k) ∙ marked) in
     value_all (IsWordThere (places_of is_state lines) row) stated k v.0 all v.1 place there ∙ sym (word_kept (widths_of is_state lines) kept stated k v.0 e h part.0 v.1)

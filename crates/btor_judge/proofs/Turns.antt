@@ -24,7 +24,7 @@ use Rattle.btor_witness.specs.laws.Laws.{at_passed, at_shape}
 use Rattle.btor_judge.specs.declared.reader.Reader.{Reader}
 use Rattle.btor_judge.specs.declared.reader.Stage.{Stage}
 use Rattle.btor_judge.specs.declared.reader.Stage.TheVariants.{Going, Done}
-use Rattle.btor_judge.specs.Kept.{Kept, Holds, IsStating}
+use Rattle.btor_judge.specs.Kept.{StatedPart, Holds, IsStating}
 use Rattle.btor_judge.specs.Standing.{AreJudged, IsFresh, IsAt, JudgesFrame, HasClosed, Does, IsStageOf}
 use Rattle.btor_judge.proofs.Passing.{fresh_judged}
 
@@ -125,7 +125,7 @@ in_part : (reader : Reader) (frames : List Frame) (p : Phase) → (p ≡ phase.S
 in_part reader frames p (inl e) = subst (IsFresh reader frames) (sym e) tt
 in_part reader frames p (inr e) = subst (IsFresh reader frames) (sym e) tt
 
-pub at_frame : (lines : List Line) (closed : Reader) (r : Reading) (part : Phase) (n : ℕ) (states inputs : Kept) → (part ≡ phase.States) ⊎ (part ≡ phase.Inputs) → n ≡ length (frames_of r) → is_within (sizes_of lines) (n + 1) ≡ true → HasClosed lines closed r
+pub at_frame : (lines : List Line) (closed : Reader) (r : Reading) (part : Phase) (n : ℕ) (states inputs : StatedPart) → (part ≡ phase.States) ⊎ (part ≡ phase.Inputs) → n ≡ length (frames_of r) → is_within (sizes_of lines) (n + 1) ≡ true → HasClosed lines closed r
     → states.widths ≡ closed.states.widths → inputs.widths ≡ closed.inputs.widths → Holds states [] → Holds inputs [] → Does lines r (new_frame (sizes_of lines) part n r) (record closed { states = states; inputs = inputs; phase = part }) Going
 at_frame lines closed r part n states inputs is same within h sw iw hs hi =
     let q : Reading = record { phase = part; bad = r.bad; frames = frames_of r; states = []; inputs = [] } in
@@ -186,7 +186,7 @@ closed_one lines old held verdict r h e fits judged =
     }
 
 -- statements
-pub at_states : (lines : List Line) (reader : Reader) (r : Reading) (i : ℕ) (word : Option BitVector) (stated : Result (Unit {0}) Kind) (stage : Stage) (new : Kept) → IsAt lines reader r → reader.phase ≡ phase.States → new.widths ≡ reader.states.widths
+pub at_states : (lines : List Line) (reader : Reader) (r : Reading) (i : ℕ) (word : Option BitVector) (stated : Result (Unit {0}) Kind) (stage : Stage) (new : StatedPart) → IsAt lines reader r → reader.phase ≡ phase.States → new.widths ≡ reader.states.widths
     → IsStating (stating reader.states.widths r.states i word) new stated → IsStageOf stated stage → Does lines r (step_in (sizes_of lines) (Assignment i word) r.phase r) (record reader { states = new }) stage
 at_states lines reader r i word (Ok u) stage new h e w is stays =
     let q : Reading = record r { states = is.0 } in
@@ -211,7 +211,7 @@ at_states lines reader r i word (Err kind) stage new h e w is stays =
     subst (λ s. Does lines r (step_in (sizes_of lines) (Assignment i word) r.phase r) (record reader { states = new }) s) (sym stays)
     (ap (λ x. step_in (sizes_of lines) (Assignment i word) x r) (phase_at lines reader r phase.States h e) ∙ ap (with_stated (λ states. record r { states = states })) stating_is)
 
-pub at_input : (lines : List Line) (reader : Reader) (r : Reading) (i : ℕ) (word : Option BitVector) (stated : Result (Unit {0}) Kind) (stage : Stage) (new : Kept) → IsAt lines reader r → reader.phase ≡ phase.Inputs → new.widths ≡ reader.inputs.widths
+pub at_input : (lines : List Line) (reader : Reader) (r : Reading) (i : ℕ) (word : Option BitVector) (stated : Result (Unit {0}) Kind) (stage : Stage) (new : StatedPart) → IsAt lines reader r → reader.phase ≡ phase.Inputs → new.widths ≡ reader.inputs.widths
     → IsStating (stating reader.inputs.widths r.inputs i word) new stated → IsStageOf stated stage → Does lines r (step_in (sizes_of lines) (Assignment i word) r.phase r) (record reader { inputs = new }) stage
 at_input lines reader r i word (Ok u) stage new h e w is stays =
     let q : Reading = record r { inputs = is.0 } in

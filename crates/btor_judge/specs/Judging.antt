@@ -88,19 +88,19 @@ pub record IsStopped (lines : List Line) (judge : Judge) (text : List ℕ) (kind
   pub placed : (more : List ℕ) → MayCome judge.ended more → place_of judge ≡ line_place (text ++ more) (judge.lines + 1)
 
 -- the judge stands for the text, at its stage
-abbrev pub StandsAt : List Line → Judge → List ℕ → Stage → Type 0
-StandsAt lines judge text Going = IsReading lines judge text
-StandsAt lines judge text Done = IsDone lines judge text
-StandsAt lines judge text (Refused kind) = IsStopped lines judge text kind
-StandsAt lines judge text TooLong = (most_bytes < length text) × (most_bytes ≤ judge.bytes)
+abbrev pub RepresentsAt : List Line → Judge → List ℕ → Stage → Type 0
+RepresentsAt lines judge text Going = IsReading lines judge text
+RepresentsAt lines judge text Done = IsDone lines judge text
+RepresentsAt lines judge text (Refused kind) = IsStopped lines judge text kind
+RepresentsAt lines judge text TooLong = (most_bytes < length text) × (most_bytes ≤ judge.bytes)
 
 -- The judge stands for the text: what it holds is what is read of the text and judged of it.
-abbrev pub StandsFor : List Line → Judge → List ℕ → Type 0
-StandsFor lines judge text = StandsAt lines judge text judge.stage
+abbrev pub Represents : List Line → Judge → List ℕ → Type 0
+Represents lines judge text = RepresentsAt lines judge text judge.stage
 
 -- the judge stands for some text
-abbrev pub Stands : List Line → Judge → Type 0
-Stands lines judge = (text : List ℕ) × StandsFor lines judge text
+abbrev pub RepresentsSome : List Line → Judge → Type 0
+RepresentsSome lines judge = (text : List ℕ) × Represents lines judge text
 
 -- The answer is the text's: the bad line, the last step and the verdict of the witness that it spells, or its refusal.
 abbrev pub Answers : List Line → List ℕ → JudgeEnd → Type 0

@@ -23,7 +23,7 @@ use Rattle.btor_witness.specs.Room.{places_of}
 use Rattle.btor_judge.specs.declared.reader.Reader.{Reader}
 use Rattle.btor_judge.specs.declared.reader.Stage.{Stage}
 use Rattle.btor_judge.specs.declared.reader.Stage.TheVariants.{Going, Done, Refused, TooLong}
-use Rattle.btor_judge.specs.Kept.{Kept, Holds}
+use Rattle.btor_judge.specs.Kept.{StatedPart, Holds}
 
 -- the reader is made for these lines
 pub record ReaderFits (lines : List Line) (reader : Reader) : Type 0 where
@@ -64,12 +64,12 @@ pub record IsAt (lines : List Line) (reader : Reader) (r : Reading) : Type 0 whe
   pub judged : AreJudged lines reader.frames reader.count r.bad r.frames reader.verdict
 
 -- the same where what the reading holds is fit for the lines
-abbrev pub StandsIn : List Line → Reader → Reading → Type 0
-StandsIn lines reader r = IsAt lines reader r × FitsAt (sizes_of lines) r.phase r
+abbrev pub RepresentsIn : List Line → Reader → Reading → Type 0
+RepresentsIn lines reader r = IsAt lines reader r × FitsAt (sizes_of lines) r.phase r
 
 -- the reader stands where some reading does
 abbrev pub IsSomewhere : List Line → Reader → Type 0
-IsSomewhere lines reader = (r : Reading) × StandsIn lines reader r
+IsSomewhere lines reader = (r : Reading) × RepresentsIn lines reader r
 
 -- the reader holds this frame, which is fit for the lines
 pub record HasFrame (lines : List Line) (reader : Reader) (f : Frame) : Type 0 where
@@ -81,7 +81,7 @@ pub record HasFrame (lines : List Line) (reader : Reader) (f : Frame) : Type 0 w
   pub inputs_fit : IsPart (widths_of is_input lines) f.inputs
 
 -- the word of the state of this number is that of the row, where it is stated
-abbrev pub AgreesAt : List ℕ → List BitVector → Kept → ℕ → Type 0
+abbrev pub AgreesAt : List ℕ → List BitVector → StatedPart → ℕ → Type 0
 AgreesAt places row kept k = get_or kept.marks k false ≡ true → (place : ℕ) → slice_get places k ≡ Some place → word_at row place ≡ word_at kept.words k
 
 -- one frame more is judged with this verdict: the last one, or one that another follows

@@ -2,7 +2,7 @@
 ghost use Rattle.std.specs.Prelude.{◌≡◌, ◌<◌, ℕ, List, [], ◌∷◌, ◌++◌, length, true, false, IfOk, IsTrue};
 ghost use Rattle.btor_tree.specs.declared.lines.Line.{Line as TreeLine};
 ghost use Rattle.btor_witness.specs.Sizes.{most_bytes};
-ghost use Rattle.btor_judge.specs.Judging.{Stands, StandsFor, IsReading, BeginsLine, is_one_line, counted, closed, has_ended, Answers};
+ghost use Rattle.btor_judge.specs.Judging.{RepresentsSome, Represents, IsReading, BeginsLine, is_one_line, counted, closed, has_ended, Answers};
 
 use crate::line::Line;
 use crate::reader::{Reader, Stage};
@@ -37,9 +37,9 @@ pub struct Judge {
 impl Judge {
     /// Returns a judge that has read the empty text.
     pub fn new(alloc: Global, nodes: &Nodes) -> Result<Judge, NoMemory>
-        ensures stands { IfOk result (λ judge. StandsFor nodes.now judge []) }
+        ensures represents { IfOk result (λ judge. Represents nodes.now judge []) }
         ensures unended { IfOk result (λ judge. has_ended judge ≡ false) }
-        ensures some { IfOk result (λ judge. Stands nodes.now judge) }
+        ensures some { IfOk result (λ judge. RepresentsSome nodes.now judge) }
     {
         Ok(Judge {
             reader: Reader::new(alloc, nodes)?,
@@ -56,10 +56,10 @@ impl Judge {
     ///
     /// It allocates nothing. Once the judge has ended, nothing changes.
     pub fn feed(&mut self, nodes: &Nodes, piece: &[u8])
-        requires { Stands nodes.now self.old }
-        ensures stands { (text : List ℕ) → has_ended self.old ≡ false → StandsFor nodes.now self.old text → StandsFor nodes.now self.new (text ++ piece.now) }
-        ensures some { Stands nodes.now self.new }
-        ensures kept { has_ended self.new ≡ has_ended self.old }
+        requires { RepresentsSome nodes.now self.old }
+        ensures represents { (text : List ℕ) → has_ended self.old ≡ false → Represents nodes.now self.old text → Represents nodes.now self.new (text ++ piece.now) }
+        ensures some { RepresentsSome nodes.now self.new }
+        ensures unchanged { has_ended self.new ≡ has_ended self.old }
         ensures ended { has_ended self.old ≡ true → self.new ≡ self.old }
     {
         if self.ended {
@@ -79,11 +79,11 @@ impl Judge {
 
     // Takes the bytes of one line, and the byte at its end.
     fn take_line(&mut self, nodes: &Nodes, raw: &[u8])
-        requires some { Stands nodes.now self.old }
+        requires some { RepresentsSome nodes.now self.old }
         requires unended { has_ended self.old ≡ false }
         requires line { is_one_line raw.now ≡ true }
-        ensures stands { (text : List ℕ) → StandsFor nodes.now self.old text → StandsFor nodes.now self.new (text ++ (raw.now ++ 10 ∷ [])) }
-        ensures kept { has_ended self.new ≡ has_ended self.old }
+        ensures represents { (text : List ℕ) → Represents nodes.now self.old text → Represents nodes.now self.new (text ++ (raw.now ++ 10 ∷ [])) }
+        ensures unchanged { has_ended self.new ≡ has_ended self.old }
     {
         if self.begins_line(raw) {
             self.read_whole(nodes, raw);
@@ -109,12 +109,12 @@ impl Judge {
 
     // Reads one line whose bytes are all at hand. The byte at its end is counted behind it.
     fn read_whole(&mut self, nodes: &Nodes, raw: &[u8])
-        requires some { Stands nodes.now self.old }
+        requires some { RepresentsSome nodes.now self.old }
         requires unended { has_ended self.old ≡ false }
         requires line { is_one_line raw.now ≡ true }
         requires begins { BeginsLine self.old raw.now }
-        ensures stands { (text : List ℕ) → StandsFor nodes.now self.old text → StandsFor nodes.now (counted self.new) (text ++ (raw.now ++ 10 ∷ [])) }
-        ensures kept { has_ended self.new ≡ has_ended self.old }
+        ensures represents { (text : List ℕ) → Represents nodes.now self.old text → Represents nodes.now (counted self.new) (text ++ (raw.now ++ 10 ∷ [])) }
+        ensures unchanged { has_ended self.new ≡ has_ended self.old }
         ensures bytes { self.new.bytes < most_bytes }
     {
         self.stage = self.reader.take_whole(nodes, raw);
@@ -130,10 +130,10 @@ impl Judge {
 
     // Takes bytes one by one.
     fn take_bytes(&mut self, nodes: &Nodes, piece: &[u8])
-        requires some { Stands nodes.now self.old }
+        requires some { RepresentsSome nodes.now self.old }
         requires unended { has_ended self.old ≡ false }
-        ensures stands { (text : List ℕ) → StandsFor nodes.now self.old text → StandsFor nodes.now self.new (text ++ piece.now) }
-        ensures kept { has_ended self.new ≡ has_ended self.old }
+        ensures represents { (text : List ℕ) → Represents nodes.now self.old text → Represents nodes.now self.new (text ++ piece.now) }
+        ensures unchanged { has_ended self.new ≡ has_ended self.old }
     {
         for b in piece {
             self.take(nodes, *b);
@@ -142,10 +142,10 @@ impl Judge {
 
     // Reads one byte.
     fn take(&mut self, nodes: &Nodes, b: u8)
-        requires some { Stands nodes.now self.old }
+        requires some { RepresentsSome nodes.now self.old }
         requires unended { has_ended self.old ≡ false }
-        ensures stands { (text : List ℕ) → StandsFor nodes.now self.old text → StandsFor nodes.now self.new (text ++ b ∷ []) }
-        ensures kept { has_ended self.new ≡ has_ended self.old }
+        ensures represents { (text : List ℕ) → Represents nodes.now self.old text → Represents nodes.now self.new (text ++ b ∷ []) }
+        ensures unchanged { has_ended self.new ≡ has_ended self.old }
     {
         if self.bytes as usize >= MOST_BYTES {
             self.stage = Stage::TooLong;
@@ -163,8 +163,8 @@ impl Judge {
     // Reads one byte, which the caller then counts.
     fn read(&mut self, nodes: &Nodes, b: u8)
         requires { (text : List ℕ) × IsReading nodes.now self.old text × (length text < most_bytes) }
-        ensures stands { (text : List ℕ) → IsReading nodes.now self.old text → length text < most_bytes → StandsFor nodes.now (counted self.new) (text ++ b ∷ []) }
-        ensures kept { has_ended self.new ≡ has_ended self.old }
+        ensures represents { (text : List ℕ) → IsReading nodes.now self.old text → length text < most_bytes → Represents nodes.now (counted self.new) (text ++ b ∷ []) }
+        ensures unchanged { has_ended self.new ≡ has_ended self.old }
         ensures bytes { self.new.bytes ≡ self.old.bytes }
     {
         if b == b'\n' {
@@ -176,8 +176,8 @@ impl Judge {
 
     fn end_line(&mut self, nodes: &Nodes)
         requires { (text : List ℕ) × IsReading nodes.now self.old text × (length text < most_bytes) }
-        ensures stands { (text : List ℕ) → IsReading nodes.now self.old text → length text < most_bytes → StandsFor nodes.now (counted self.new) (text ++ 10 ∷ []) }
-        ensures kept { has_ended self.new ≡ has_ended self.old }
+        ensures represents { (text : List ℕ) → IsReading nodes.now self.old text → length text < most_bytes → Represents nodes.now (counted self.new) (text ++ 10 ∷ []) }
+        ensures unchanged { has_ended self.new ≡ has_ended self.old }
         ensures bytes { self.new.bytes ≡ self.old.bytes }
     {
         self.stage = self.reader.take_line(nodes, &self.line);
@@ -196,11 +196,11 @@ impl Judge {
     ///
     /// It allocates nothing. Further calls return the same result.
     pub fn end(&mut self, nodes: &Nodes) -> JudgeEnd
-        requires { Stands nodes.now self.old }
-        ensures answers { (text : List ℕ) → StandsFor nodes.now self.old text → Answers nodes.now text result }
-        ensures only { (text : List ℕ) (other : JudgeEnd) → StandsFor nodes.now self.old text → Answers nodes.now text other → result ≡ other }
-        ensures stands { (text : List ℕ) → StandsFor nodes.now self.old text → StandsFor nodes.now self.new text }
-        ensures some { Stands nodes.now self.new }
+        requires { RepresentsSome nodes.now self.old }
+        ensures answers { (text : List ℕ) → Represents nodes.now self.old text → Answers nodes.now text result }
+        ensures only { (text : List ℕ) (other : JudgeEnd) → Represents nodes.now self.old text → Answers nodes.now text other → result ≡ other }
+        ensures represents { (text : List ℕ) → Represents nodes.now self.old text → Represents nodes.now self.new text }
+        ensures some { RepresentsSome nodes.now self.new }
         ensures ended { has_ended self.new ≡ true }
         ensures same { has_ended self.old ≡ true → self.new ≡ self.old }
     {
@@ -215,9 +215,9 @@ impl Judge {
 
     // Ends the text.
     fn close(&mut self, nodes: &Nodes)
-        requires some { Stands nodes.now self.old }
+        requires some { RepresentsSome nodes.now self.old }
         requires unended { has_ended self.old ≡ false }
-        ensures stands { (text : List ℕ) → StandsFor nodes.now self.old text → StandsFor nodes.now self.new text }
+        ensures represents { (text : List ℕ) → Represents nodes.now self.old text → Represents nodes.now self.new text }
         ensures ended { has_ended self.new ≡ true }
     {
         match self.stage {
@@ -232,7 +232,7 @@ impl Judge {
     // Ends the last line, which may lack its line feed. A text that ends before the witness does is refused there.
     fn close_line(&mut self, nodes: &Nodes)
         requires { (text : List ℕ) × IsReading nodes.now self.old text }
-        ensures { (text : List ℕ) → IsReading nodes.now self.old text → StandsFor nodes.now (closed self.new) text }
+        ensures { (text : List ℕ) → IsReading nodes.now self.old text → Represents nodes.now (closed self.new) text }
     {
         self.stage = self.reader.take_line(nodes, &self.line);
         match self.stage {
@@ -242,8 +242,8 @@ impl Judge {
     }
 
     fn answer(&self) -> JudgeEnd
-        requires { (lines : List TreeLine) × Stands lines self.now }
-        ensures { (lines : List TreeLine) (text : List ℕ) → has_ended self.now ≡ true → StandsFor lines self.now text → Answers lines text result }
+        requires { (lines : List TreeLine) × RepresentsSome lines self.now }
+        ensures { (lines : List TreeLine) (text : List ℕ) → has_ended self.now ≡ true → Represents lines self.now text → Answers lines text result }
     {
         match self.stage {
             Stage::Done => {

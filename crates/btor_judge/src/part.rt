@@ -23,13 +23,13 @@ pub struct Part {
 
 impl Model for Part {
     ghost use Rattle.std.specs.Prelude.{◌≡◌, length};
-    ghost use Rattle.btor_judge.specs.Kept.{Kept, IsKept};
+    ghost use Rattle.btor_judge.specs.Kept.{StatedPart, IsStatedPart};
 
-    ghost Value = { Kept };
+    ghost Value = { StatedPart };
 
     ghost view = { λ p. record { widths = p.widths; marks = p.marks.items; words = p.words } };
 
-    ghost invariant = { λ p. IsKept (record { widths = p.widths; marks = p.marks.items; words = p.words }) };
+    ghost invariant = { λ p. IsStatedPart (record { widths = p.widths; marks = p.marks.items; words = p.words }) };
 }
 
 impl Part {

@@ -13,7 +13,7 @@ ghost use Rattle.btor_witness.specs.Reading.{Reading, begin, frames_of, new_fram
 ghost use Rattle.btor_witness.specs.Texts.{next_of};
 ghost use Rattle.btor_witness.specs.Room.{IsWordThere, places_of};
 ghost use Rattle.btor_judge.specs.Scanning.{line_of};
-ghost use Rattle.btor_judge.specs.Standing.{ReaderFits, IsAt, StandsIn, IsSomewhere, HasFrame, AgreesAt, JudgesHeld, HeldFails, HeldPasses, HasClosed, Does, IsStageOf};
+ghost use Rattle.btor_judge.specs.Standing.{ReaderFits, IsAt, RepresentsIn, IsSomewhere, HasFrame, AgreesAt, JudgesHeld, HeldFails, HeldPasses, HasClosed, Does, IsStageOf};
 
 use crate::line::Line;
 use crate::part::Part;
@@ -82,7 +82,7 @@ impl Reader {
     /// Reads one line, and returns the stage after it.
     pub fn take_line(&mut self, nodes: &Nodes, line: &Line) -> Stage
         requires { IsSomewhere nodes.now self.old }
-        ensures { (r : Reading) (raw : List ℕ) → StandsIn nodes.now self.old r → line.now ≡ line_of raw → Does nodes.now r (next_of (sizes_of nodes.now) r (line_parts raw)) self.new result }
+        ensures { (r : Reading) (raw : List ℕ) → RepresentsIn nodes.now self.old r → line.now ≡ line_of raw → Does nodes.now r (next_of (sizes_of nodes.now) r (line_parts raw)) self.new result }
     {
         if line.is_passed() {
             return Stage::Going;
@@ -96,7 +96,7 @@ impl Reader {
     /// Reads one line of which all bytes are at hand.
     pub fn take_whole(&mut self, nodes: &Nodes, raw: &[u8]) -> Stage
         requires { IsSomewhere nodes.now self.old }
-        ensures { (r : Reading) → StandsIn nodes.now self.old r → Does nodes.now r (next_of (sizes_of nodes.now) r (line_parts raw.now)) self.new result }
+        ensures { (r : Reading) → RepresentsIn nodes.now self.old r → Does nodes.now r (next_of (sizes_of nodes.now) r (line_parts raw.now)) self.new result }
     {
         let line = without_return(raw);
         // A line that has a shape isn't passed over, and nearly all lines have one.
@@ -114,7 +114,7 @@ impl Reader {
 
     fn step(&mut self, nodes: &Nodes, shape: Shape) -> Stage
         requires { IsSomewhere nodes.now self.old }
-        ensures { (r : Reading) → StandsIn nodes.now self.old r → Does nodes.now r (step (sizes_of nodes.now) r shape) self.new result }
+        ensures { (r : Reading) → RepresentsIn nodes.now self.old r → Does nodes.now r (step (sizes_of nodes.now) r shape) self.new result }
     {
         match shape {
             Shape::Sat => self.sat_line(),
@@ -166,7 +166,7 @@ impl Reader {
 
     fn states_line(&mut self, nodes: &Nodes, number: u32) -> Stage
         requires { IsSomewhere nodes.now self.old }
-        ensures { (r : Reading) → StandsIn nodes.now self.old r → Does nodes.now r (step (sizes_of nodes.now) r (line.States number)) self.new result }
+        ensures { (r : Reading) → RepresentsIn nodes.now self.old r → Does nodes.now r (step (sizes_of nodes.now) r (line.States number)) self.new result }
     {
         match self.phase {
             Phase::Start => Stage::Refused(witness::LINE),
@@ -177,7 +177,7 @@ impl Reader {
 
     fn inputs_line(&mut self, nodes: &Nodes, number: u32) -> Stage
         requires { IsSomewhere nodes.now self.old }
-        ensures { (r : Reading) → StandsIn nodes.now self.old r → Does nodes.now r (step (sizes_of nodes.now) r (line.Inputs number)) self.new result }
+        ensures { (r : Reading) → RepresentsIn nodes.now self.old r → Does nodes.now r (step (sizes_of nodes.now) r (line.Inputs number)) self.new result }
     {
         match self.phase {
             Phase::Start => Stage::Refused(witness::LINE),
@@ -197,7 +197,7 @@ impl Reader {
     fn new_frame(&mut self, nodes: &Nodes, part: Phase, number: u32) -> Stage
         requires somewhere { IsSomewhere nodes.now self.old }
         requires part { (part ≡ phase.States) ⊎ (part ≡ phase.Inputs) }
-        ensures { (r : Reading) → StandsIn nodes.now self.old r → Does nodes.now r (new_frame (sizes_of nodes.now) part number r) self.new result }
+        ensures { (r : Reading) → RepresentsIn nodes.now self.old r → Does nodes.now r (new_frame (sizes_of nodes.now) part number r) self.new result }
     {
         if number != self.frame_count() {
             return Stage::Refused(witness::FRAME_ORDER);
@@ -236,7 +236,7 @@ impl Reader {
     // Judges the last frame, if there is one, as a frame that another one follows.
     fn close_frame(&mut self, nodes: &Nodes)
         requires { IsSomewhere nodes.now self.old }
-        ensures { (r : Reading) → StandsIn nodes.now self.old r → HasClosed nodes.now self.new r }
+        ensures { (r : Reading) → RepresentsIn nodes.now self.old r → HasClosed nodes.now self.new r }
     {
         match self.phase {
             Phase::States => self.pass_frame(nodes),
@@ -336,7 +336,7 @@ impl Reader {
 
     fn end_line(&mut self, nodes: &Nodes) -> Stage
         requires { IsSomewhere nodes.now self.old }
-        ensures { (r : Reading) → StandsIn nodes.now self.old r → Does nodes.now r (step (sizes_of nodes.now) r line.End) self.new result }
+        ensures { (r : Reading) → RepresentsIn nodes.now self.old r → Does nodes.now r (step (sizes_of nodes.now) r line.End) self.new result }
     {
         match self.phase {
             Phase::States => {

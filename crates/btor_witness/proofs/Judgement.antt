@@ -14,8 +14,8 @@ use Rattle.btor_tree.specs.declared.lines.Line.{Line}
 use Rattle.btor_tree.specs.Fits.{IsWellFormed, count_of, is_input, is_state, state_value, width_at}
 use Rattle.btor_tree.proofs.Paths.{state_is}
 use Rattle.btor_tree.proofs.Widths.{option_cases}
-use Rattle.btor_frames.specs.Steps.{value_kind, HandedFit}
-use Rattle.btor_frames.specs.Judged.{Statement, IsStatedFrame, StatesAgree, StatementFits, HandsStated, stated_or}
+use Rattle.btor_frames.specs.Steps.{value_kind, SuppliedFit}
+use Rattle.btor_frames.specs.Judged.{Statement, IsStatedFrame, StatesAgree, StatementFits, SuppliesStated, stated_or}
 use Rattle.btor_frames.proofs.Stating.{hands_fit}
 use Rattle.btor_witness.specs.declared.witness.Frame.{Frame}
 use Rattle.btor_witness.specs.declared.witness.Witness.{Witness}
@@ -29,7 +29,7 @@ use Rattle.btor_witness.proofs.Places.{place_there, state_place, width_by_number
 use Rattle.btor_witness.proofs.Tables.{length_widths}
 
 -- the words that are handed in are the stated ones
-pub hands : (lines : List Line) (f : Frame) (inputs free : List BitVector) → HoldsStated (widths_of is_input lines) f.inputs inputs → HoldsStated (widths_of is_state lines) f.states free → HandsStated lines (statement_of f) inputs free
+pub hands : (lines : List Line) (f : Frame) (inputs free : List BitVector) → HoldsStated (widths_of is_input lines) f.inputs inputs → HoldsStated (widths_of is_state lines) f.states free → SuppliesStated lines (statement_of f) inputs free
 hands lines f inputs free h k =
     record {
       inputs_stated = λ i l g e. h.by_index _ _ (width_by_number lines is_input i l g (ap is_input e));
@@ -47,7 +47,7 @@ statement_fits lines f a b =
           (of.1, same_Some _ _ (sym of.0 ∙ width_by_number lines is_state i l g (ap is_state e)));
     }
 
-pub handed_fit : (lines : List Line) (f : Frame) (inputs free : List BitVector) → IsWellFormed lines → IsPart (widths_of is_input lines) f.inputs → IsPart (widths_of is_state lines) f.states → HoldsStated (widths_of is_input lines) f.inputs inputs → HoldsStated (widths_of is_state lines) f.states free → HandedFit lines inputs free
+pub handed_fit : (lines : List Line) (f : Frame) (inputs free : List BitVector) → IsWellFormed lines → IsPart (widths_of is_input lines) f.inputs → IsPart (widths_of is_state lines) f.states → HoldsStated (widths_of is_input lines) f.inputs inputs → HoldsStated (widths_of is_state lines) f.states free → SuppliedFit lines inputs free
 handed_fit lines f inputs free w a b h k =
     hands_fit lines (statement_of f) inputs free w (statement_fits lines f a b) (hands lines f inputs free h k) (h.sized ∙ length_widths lines is_input lines) (k.sized ∙ length_widths lines is_state lines)
 

@@ -41,19 +41,19 @@ marked (X n) count = 0
 marked (Y n) count = 0
 
 -- the mend that comes with what stands near
-abbrev pub near_mend : Option Near → Option (List ℕ)
-near_mend near = option_and_then (λ n. n.mend) near
+abbrev pub near_remedy : Option Near → Option (List ℕ)
+near_remedy near = option_and_then (λ n. n.remedy) near
 
 abbrev pub or_this : Option (List ℕ) → List ℕ → List ℕ
 or_this None other = other
 or_this (Some this) other = this
 
 -- the mend for a token, or else for what stands near it, or else for the kind
-abbrev pub mend_of : Kind → List ℕ → Option Near → List ℕ
-mend_of kind token near = or_this (or_else (hint_for kind token) (near_mend near)) (advice_of kind).1
+abbrev pub remedy_of : Kind → List ℕ → Option Near → List ℕ
+remedy_of kind token near = or_this (or_else (hint_for kind token) (near_remedy near)) (advice_of kind).1
 
 abbrev pub rest_text : Kind → List ℕ → Option Near → List ℕ
-rest_text kind token near = near_text near ++ help_text (mend_of kind token near)
+rest_text kind token near = near_text near ++ help_text (remedy_of kind token near)
 
 -- the token with which a text begins
 abbrev pub token_of : Kind → List ℕ → List ℕ

@@ -68,4 +68,4 @@ near_text (Some near) = token_text near.words near.token near.line near.column
 
 -- the mend
 abbrev pub help_text : List ℕ → List ℕ
-help_text mend = codes "help: " ++ (mend ++ codes "\n")
+help_text remedy = codes "help: " ++ (remedy ++ codes "\n")

@@ -18,7 +18,7 @@ pub record Near : Type 0 where
   pub token : List ℕ
   pub line : ℕ
   pub column : ℕ
-  pub mend : Option (List ℕ)
+  pub remedy : Option (List ℕ)
 
 -- a token with its place
 pub record Found : Type 0 where
@@ -27,7 +27,7 @@ pub record Found : Type 0 where
   pub column : ℕ
 
 abbrev pub plain_near : TheNear → Near
-plain_near n = record { words = n.words.now; token = n.token.now; line = n.line; column = n.column; mend = option_map (λ mend. mend.now) n.mend }
+plain_near n = record { words = n.words.now; token = n.token.now; line = n.line; column = n.column; remedy = option_map (λ remedy. remedy.now) n.remedy }
 
 abbrev pub plain_found : TheFound → Found
 plain_found f = record { token = f.token.now; line = f.line; column = f.column }
@@ -60,7 +60,7 @@ operator_in wanted zero at depth (b ∷ bs) =
 -- what is said of an operator
 abbrev pub operator_near : Place → List ℕ → ℕ × ℕ → Near
 operator_near place rest ends =
-    record { words = FIRST_OPERATOR.now; token = take (ends.1 - ends.0) (drop ends.0 rest); line = place.line; column = place.column + ends.0; mend = None }
+    record { words = FIRST_OPERATOR.now; token = take (ends.1 - ends.0) (drop ends.0 rest); line = place.line; column = place.column + ends.0; remedy = None }
 
 -- where the last token of a line's front before a comment begins and ends
 abbrev pub last_token : ℕ → ℕ → Option (ℕ × ℕ) → List ℕ → Option (ℕ × ℕ)
@@ -111,7 +111,7 @@ ends_operand (b ∷ bs) =
     else ((b == 41) || ((b == 93) || (b == 125)))
 
 abbrev pub gap_with : Found → List ℕ → List ℕ → Near
-gap_with found words mend = record { words = words; token = found.token; line = found.line; column = found.column; mend = Some mend }
+gap_with found words remedy = record { words = words; token = found.token; line = found.line; column = found.column; remedy = Some remedy }
 
 -- what is missing behind a token, before this text
 abbrev pub gap_near : Found → List ℕ → Option Near

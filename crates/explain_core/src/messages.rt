@@ -81,10 +81,10 @@ pub fn put_plain<'a, K: Sink>(
     file: &'a [u8],
     line: &'a [u8],
     cause: &'a [u8],
-    mend: &'a [u8],
+    remedy: &'a [u8],
     out: &mut K,
 ) -> Result<(), SinkFault>
-    ensures { Puts (K.taken out.old) (K.taken out.new) (K.faults out.old) (K.faults out.new) (plain_text file.now line.now (cause.now, mend.now)) result }
+    ensures { Puts (K.taken out.old) (K.taken out.new) (K.faults out.old) (K.faults out.new) (plain_text file.now line.now (cause.now, remedy.now)) result }
 {
     let pieces = [
         &*file,
@@ -93,7 +93,7 @@ pub fn put_plain<'a, K: Sink>(
         b": ",
         &*cause,
         b"\nhelp: ",
-        &*mend,
+        &*remedy,
         b"\n",
     ];
     put(out, &pieces)
@@ -207,10 +207,10 @@ fn put_token<K: Sink>(
 }
 
 /// Writes the line with the fix.
-pub fn put_help<K: Sink>(mend: &[u8], out: &mut K) -> Result<(), SinkFault>
-    ensures { Puts (K.taken out.old) (K.taken out.new) (K.faults out.old) (K.faults out.new) (help_text mend.now) result }
+pub fn put_help<K: Sink>(remedy: &[u8], out: &mut K) -> Result<(), SinkFault>
+    ensures { Puts (K.taken out.old) (K.taken out.new) (K.faults out.old) (K.faults out.new) (help_text remedy.now) result }
 {
-    put(out, &[b"help: ", &*mend, b"\n"])
+    put(out, &[b"help: ", &*remedy, b"\n"])
 }
 
 /// Writes the pieces in order.

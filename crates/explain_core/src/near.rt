@@ -11,14 +11,14 @@ use text_core::{Kind, Place, is_same};
 
 /// A hint near a place: words about a token, the token and its place, and a fix.
 ///
-/// `mend` is a fix that fits better than that of the kind.
+/// `remedy` is a fix that fits better than that of the kind.
 #[derive(Clone, Copy)]
 pub struct Near<'a> {
     pub words: &'static [u8],
     pub token: &'a [u8],
     pub line: usize,
     pub column: usize,
-    pub mend: Option<&'static [u8]>,
+    pub remedy: Option<&'static [u8]>,
 }
 
 // A token with its place.
@@ -72,7 +72,7 @@ pub fn near_of<'a>(kind: Kind, lines: &[&'a [u8]], place: Place, rest: &'a [u8])
         token: &rest[start..end],
         line: place.line as usize,
         column: place.column as usize + start,
-        mend: None,
+        remedy: None,
     })
 }
 
@@ -157,7 +157,7 @@ fn gap_before<'a>(lines: &[&'a [u8]], place: Place, rest: &[u8]) -> Option<Near<
 fn gap_near<'a>(found: Found<'a>, rest: &[u8]) -> Option<Near<'a>>
     ensures { option_map plain_near result ≡ gap_near (plain_found found.entry) rest.now }
 {
-    let (words, mend) = if is_same(found.token, b"..") {
+    let (words, remedy) = if is_same(found.token, b"..") {
         (OPEN_RANGE, CLOSE_RANGE)
     } else if begins_operand(rest) && ends_operand(found.token) {
         (NOTHING_BETWEEN, FILL_GAP)
@@ -169,7 +169,7 @@ fn gap_near<'a>(found: Found<'a>, rest: &[u8]) -> Option<Near<'a>>
         token: found.token,
         line: found.line,
         column: found.column,
-        mend: Some(mend),
+        remedy: Some(remedy),
     })
 }
 

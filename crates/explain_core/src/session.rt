@@ -5,7 +5,7 @@ ghost use Rattle.explain_core.specs.Advice.{plain_advice};
 ghost use Rattle.explain_core.specs.Messages.{plain_text};
 ghost use Rattle.explain_core.specs.Near.{plain_near};
 ghost use Rattle.explain_core.specs.Notes.{note_of};
-ghost use Rattle.explain_core.specs.Explaining.{below_text, end_before, explained_line, explained_lines, file_of, found_text, is_explained, line_at_text, marked, mend_of, note_text, refusal_text, rest_of, rest_text, shown_line, token_of, usage_text};
+ghost use Rattle.explain_core.specs.Explaining.{below_text, end_before, explained_line, explained_lines, file_of, found_text, is_explained, line_at_text, marked, remedy_of, note_text, refusal_text, rest_of, rest_text, shown_line, token_of, usage_text};
 
 use crate::advice::{
     Advice, COMMANDS, NO_MEMORY, READ_FAULT, USAGE, WRITE_FAULT, advice_of, clause_advice, hint_for,
@@ -136,8 +136,8 @@ fn put_advice<K: Sink>(
 ) -> Result<(), SinkFault>
     ensures { Puts (K.taken out.old) (K.taken out.new) (K.faults out.old) (K.faults out.new) (plain_text file.now line.now (plain_advice advice.entry)) result }
 {
-    let (cause, mend) = advice;
-    put_plain(file, line, cause, mend, out)
+    let (cause, remedy) = advice;
+    put_plain(file, line, cause, remedy, out)
 }
 
 /// Writes the explanation of a refusal, with the line of its place where the file has it.
@@ -149,14 +149,14 @@ pub fn put_refusal<K: Sink>(
 ) -> Result<(), SinkFault>
     ensures { Puts (K.taken out.old) (K.taken out.new) (K.faults out.old) (K.faults out.new) (refusal_text (file_of source.now) refusal) result }
 {
-    let (cause, mend) = advice_of(refusal.kind);
+    let (cause, remedy) = advice_of(refusal.kind);
     if let Some(lines) = source.lines {
         if let Some(line) = line_of(lines, refusal) {
             return put_found(refusal, source.name, lines, line, out);
         }
     }
     put_header(source.name, refusal, b"", cause, out)?;
-    put_help(mend, out)
+    put_help(remedy, out)
 }
 
 // The line of a place, where the line is long enough for the column.
@@ -254,28 +254,28 @@ fn put_rest<K: Sink>(
 ) -> Result<(), SinkFault>
     ensures { Puts (K.taken out.old) (K.taken out.new) (K.faults out.old) (K.faults out.new) (rest_text kind token.now (option_map plain_near near.entry)) result }
 {
-    let mend = mend_of(kind, token, near);
+    let remedy = remedy_of(kind, token, near);
     put_near(near, out)?;
-    put_help(mend, out)
+    put_help(remedy, out)
 }
 
 // The fix for a token, or else the fix of the hint near it, or else the fix for the kind.
-fn mend_of(kind: Kind, token: &[u8], near: Option<Near<'_>>) -> &'static [u8]
-    ensures { result.now ≡ mend_of kind token.now (option_map plain_near near.entry) }
+fn remedy_of(kind: Kind, token: &[u8], near: Option<Near<'_>>) -> &'static [u8]
+    ensures { result.now ≡ remedy_of kind token.now (option_map plain_near near.entry) }
 {
-    if let Some(mend) = hint_for(kind, token) {
-        return mend;
+    if let Some(remedy) = hint_for(kind, token) {
+        return remedy;
     }
     match near {
         Some(
             Near {
-                mend: Some(mend),
+                remedy: Some(remedy),
                 ..
             },
-        ) => mend,
+        ) => remedy,
         _ => {
-            let (_, mend) = advice_of(kind);
-            mend
+            let (_, remedy) = advice_of(kind);
+            remedy
         }
     }
 }

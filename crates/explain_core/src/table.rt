@@ -21,7 +21,7 @@ fn put_row<K: Sink>(letter: u8, number: u8, out: &mut K) -> Result<(), SinkFault
     let Some(kind) = kind_of(letter, number) else {
         return Ok(());
     };
-    let (cause, mend) = advice_of(kind);
+    let (cause, remedy) = advice_of(kind);
     let name = [letter];
     let mut digits = Buffer::new();
     let pieces = [
@@ -33,7 +33,7 @@ fn put_row<K: Sink>(letter: u8, number: u8, out: &mut K) -> Result<(), SinkFault
         b" | ",
         cause,
         b" | ",
-        mend,
+        remedy,
         b" |\n",
     ];
     put(out, &pieces)

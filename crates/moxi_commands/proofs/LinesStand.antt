@@ -29,7 +29,7 @@ use Rattle.moxi_layout.specs.LineLaws.{LinesAreWellFormed, LinesLayOut}
 use Rattle.moxi_layout.specs.ConstantLaws.{CodesAreFew}
 use Rattle.moxi_commands.specs.Limits.{most_script_bytes}
 use Rattle.btor_commands.specs.Traces.{HasTrace}
-use Rattle.moxi_commands.specs.Translation.{IsInstantiated, ScriptLinesAreLaidOut, StandFor, WritesLines, btor_text}
+use Rattle.moxi_commands.specs.Translation.{IsInstantiated, ScriptLinesAreLaidOut, RepresentsScript, WritesLines, btor_text}
 use Rattle.btor_commands.proofs.Imported.{there}
 
 -- ---- sizes
@@ -76,7 +76,7 @@ from_trace s lines framed flattened whole laid j k h t =
 laid_out : (s : PlainScript) → LinesLayOut → LinesAreWellFormed → HaveCodes s.scope.enumerations → IsSortedFlat (flat_of s) → length (lines_of (flat_of s)) < greatest_id → IsLaidOut (flat_of s) (lines_of (flat_of s))
 laid_out s lay formed codes sorted room = record { sorted = sorted; codes = codes; well_formed = formed (flat_of s) codes sorted room; lays = lay (flat_of s) codes sorted room }
 
-stand : (s : PlainScript) (lines : List Line) → TracesHaveFrames → TracesHaveFlatTraces → BadsAreQueries → IsWhole s → IsLaidOut (flat_of s) lines → StandFor s lines
+stand : (s : PlainScript) (lines : List Line) → TracesHaveFrames → TracesHaveFlatTraces → BadsAreQueries → IsWhole s → IsLaidOut (flat_of s) lines → RepresentsScript s lines
 stand s lines framed flattened bads whole laid = record {
   bads = bads (flat_of s) lines laid.lays;
   frames = λ j k h. (from_trace s lines framed flattened whole laid j k h, from_frames s lines framed flattened whole laid j k h);
@@ -84,7 +84,7 @@ stand s lines framed flattened bads whole laid = record {
 
 written : (s : PlainScript) → ((lines : List Line) → IsWellFormed lines → SpellsLines (printed lines) lines)
     → ((text : List ℕ) (lines others : List Line) → SpellsLines text lines → SpellsLines text others → lines ≡ others)
-    → IsLaidOut (flat_of s) (lines_of (flat_of s)) → StandFor s (lines_of (flat_of s)) → HasNoTwoAlike (lines_of (flat_of s)) → WritesLines s (btor_text s)
+    → IsLaidOut (flat_of s) (lines_of (flat_of s)) → RepresentsScript s (lines_of (flat_of s)) → HasNoTwoAlike (lines_of (flat_of s)) → WritesLines s (btor_text s)
 unfolding btor_text
 written s spells one laid stands alike =
     let spelled = spells (lines_of (flat_of s)) laid.well_formed in
@@ -102,10 +102,10 @@ laid_lines wholes coded sorts sizes counted lay formed bytes s h =
     let codes = coded bytes x.forms (after start bytes) s (fits bytes x.within) x.formed x.spelled in
     laid_out s lay formed codes sorted (few s counted sizes whole sorted h.accepted)
 
-pub lines_stand : ((ts : Trees) (end : Place) (s : PlainScript) → SpellsScript ts end s → IsWhole s) → ScriptLinesAreLaidOut → BadsAreQueries → NoTwoLinesAlike → TracesHaveFrames → TracesHaveFlatTraces
+pub lines_are_correct : ((ts : Trees) (end : Place) (s : PlainScript) → SpellsScript ts end s → IsWhole s) → ScriptLinesAreLaidOut → BadsAreQueries → NoTwoLinesAlike → TracesHaveFrames → TracesHaveFlatTraces
     → ((lines : List Line) → IsWellFormed lines → SpellsLines (printed lines) lines) → ((text : List ℕ) (lines others : List Line) → SpellsLines text lines → SpellsLines text others → lines ≡ others)
     → (bytes : List ℕ) (s : PlainScript) → IsInstantiated bytes s → WritesLines s (btor_text s)
-lines_stand wholes laid bads distinct framed flattened spells one bytes s h =
+lines_are_correct wholes laid bads distinct framed flattened spells one bytes s h =
     let x = h.is_script in
     let whole = wholes x.forms (after start bytes) s x.spelled in
     let lay = laid bytes s h in

@@ -122,9 +122,9 @@ module _ (files : Option Files) (names : List (List ℕ)) (rose : Type 0) (secon
 
 -- ---- what a response stands for
 
-served_bytes : (lifts : TracesAreLifted) (fs : Files) (model second bytes : List ℕ) (b : Answer) (before now : Option (List ℕ)) → file_at fs model ≡ Some bytes → OfBytes fs second bytes b → status_of b ≡ status.Done → now ≡ grown before (text_of b)
+correct_bytes : (lifts : TracesAreLifted) (fs : Files) (model second bytes : List ℕ) (b : Answer) (before now : Option (List ℕ)) → file_at fs model ≡ Some bytes → OfBytes fs second bytes b → status_of b ≡ status.Done → now ≡ grown before (text_of b)
     → IsLiftedResponse fs model second before now
-served_bytes lifts fs model second bytes b before now there (inl x) s w =
+correct_bytes lifts fs model second bytes b before now there (inl x) s w =
     done_second fs second x.2.0 (lifted_response x.0) b x.2.2 s (λ text witness second_there spelled judged e. record {
       bytes = bytes;
       there = there;
@@ -141,12 +141,12 @@ served_bytes lifts fs model second bytes b before now there (inl x) s w =
       written = w ∙ ap (λ a. grown before (text_of a)) e;
       lifts = lifts bytes x.0 x.1 x.2.0 x.2.1 text witness spelled judged;
     })
-served_bytes lifts fs model second bytes b before now there (inr r) s w = let e : status.Refused ≡ status.Done = sym (ap status_of r.2) ∙ s in absurd (cc)
+correct_bytes lifts fs model second bytes b before now there (inr r) s w = let e : status.Refused ≡ status.Done = sym (ap status_of r.2) ∙ s in absurd (cc)
 
 -- a response that was written whole is that to which the witness is lifted
-pub served : (lifts : TracesAreLifted) (fs : Files) (model second : List ℕ) (b : Answer) (before now : Option (List ℕ)) → IsMoxiLift fs model second b → status_of b ≡ status.Done → now ≡ grown before (text_of b) → IsLiftedResponse fs model second before now
-served lifts fs model second b before now h s w =
-    done_from fs model most_script_bytes script_too_long (OfBytes fs second) b refl h s (λ bytes there g. served_bytes lifts fs model second bytes b before now there g s w)
+pub correct_output : (lifts : TracesAreLifted) (fs : Files) (model second : List ℕ) (b : Answer) (before now : Option (List ℕ)) → IsMoxiLift fs model second b → status_of b ≡ status.Done → now ≡ grown before (text_of b) → IsLiftedResponse fs model second before now
+correct_output lifts fs model second b before now h s w =
+    done_from fs model most_script_bytes script_too_long (OfBytes fs second) b refl h s (λ bytes there g. correct_bytes lifts fs model second bytes b before now there g s w)
 
 -- the defined answer to a witness that the judge accepts
 pub accepted_answer : (fs : Files) (model second bytes text : List ℕ) (script : PlainScript) (lines : List Line) (w : Witness) → file_at fs model ≡ Some bytes → IsInstantiated bytes script → SpellsLines (btor_text script) lines

@@ -18,7 +18,7 @@ use Rattle.command_core.specs.laws.Files.{done_from, goes_once}
 use Rattle.command_core.specs.laws.Texts.{done_text, one_answer}
 use Rattle.moxi_commands.specs.Limits.{most_script_bytes}
 use Rattle.moxi_commands.specs.Scripts.{IsScriptText, IsSystemRefusal, IsTextEnd, script_too_long}
-use Rattle.moxi_commands.specs.Translation.{IsBtorText, IsInstantiated, IsLinesEnd, IsLinesText, IsServed, LinesStand, OfBytes, WritesLines, btor_text}
+use Rattle.moxi_commands.specs.Translation.{IsBtorText, IsInstantiated, IsLinesEnd, IsLinesText, IsCorrectOutput, LinesAreCorrect, OfBytes, WritesLines, btor_text}
 use Rattle.moxi_commands.proofs.Refused.{not_refused, one_system_refusal, same_script}
 
 -- ---- one answer
@@ -55,12 +55,12 @@ no_text bytes NoMemory h = tt
 
 -- ---- what was written
 
-served_bytes : (stands : LinesStand) (fs : Files) (model bytes : List ℕ) (b : Answer) (before now : Option (List ℕ)) → file_at fs model ≡ Some bytes → OfBytes bytes b → status_of b ≡ status.Done → now ≡ grown before (text_of b) → IsServed fs model before now
-served_bytes stands fs model bytes b before now there h s w =
+correct_bytes : (stands : LinesAreCorrect) (fs : Files) (model bytes : List ℕ) (b : Answer) (before now : Option (List ℕ)) → file_at fs model ≡ Some bytes → OfBytes bytes b → status_of b ≡ status.Done → now ≡ grown before (text_of b) → IsCorrectOutput fs model before now
+correct_bytes stands fs model bytes b before now there h s w =
     let t = done_text (IsLinesText bytes) (IsSystemRefusal bytes) b h s in
     record { bytes = bytes; there = there; script = t.0; instantiated = t.1; text = text_of b; written = w; lines = subst (WritesLines t.0) (sym t.2) (stands bytes t.0 t.1) }
 
 -- a text that was written whole stands for its script
-pub served : (stands : LinesStand) (fs : Files) (model : List ℕ) (b : Answer) (before now : Option (List ℕ)) → IsBtorText fs model b → status_of b ≡ status.Done → now ≡ grown before (text_of b) → IsServed fs model before now
-served stands fs model b before now h s w =
-    done_from fs model most_script_bytes script_too_long OfBytes b refl h s (λ bytes there g. served_bytes stands fs model bytes b before now there g s w)
+pub correct_output : (stands : LinesAreCorrect) (fs : Files) (model : List ℕ) (b : Answer) (before now : Option (List ℕ)) → IsBtorText fs model b → status_of b ≡ status.Done → now ≡ grown before (text_of b) → IsCorrectOutput fs model before now
+correct_output stands fs model b before now h s w =
+    done_from fs model most_script_bytes script_too_long OfBytes b refl h s (λ bytes there g. correct_bytes stands fs model bytes b before now there g s w)

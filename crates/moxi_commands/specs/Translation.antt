@@ -50,7 +50,7 @@ IsBtorText files model answer = GoesOn (file_within files model most_script_byte
 
 -- the lines are a translation of the script: they have a bad line for each query, and a trace meets query j at step k exactly where
 -- frames 0 to k have bad line j true in the last
-pub record StandFor (script : PlainScript) (lines : List Line) : Type 0 where
+pub record RepresentsScript (script : PlainScript) (lines : List Line) : Type 0 where
   pub bads : length (operands is_bad lines) ≡ length script.check.queries
   pub frames : (j k : ℕ) → j < length script.check.queries → HasTrace script j k ↔ HasFrames lines j k
 
@@ -59,7 +59,7 @@ pub record WritesLines (script : PlainScript) (text : List ℕ) : Type 0 where
   pub lines : List Line
   pub spelled : SpellsLines text lines
   pub only : (others : List Line) → SpellsLines text others → others ≡ lines
-  pub stand : StandFor script lines
+  pub stand : RepresentsScript script lines
   pub distinct : HasNoTwoAlike lines
 
 -- the lines of a script's flat system lay the system out
@@ -67,11 +67,11 @@ abbrev pub ScriptLinesAreLaidOut : Type 0
 ScriptLinesAreLaidOut = (bytes : List ℕ) (script : PlainScript) → IsInstantiated bytes script → IsLaidOut (flat_of script) (lines_of (flat_of script))
 
 -- the text written for each script is correct
-abbrev pub LinesStand : Type 0
-LinesStand = (bytes : List ℕ) (script : PlainScript) → IsInstantiated bytes script → WritesLines script (btor_text script)
+abbrev pub LinesAreCorrect : Type 0
+LinesAreCorrect = (bytes : List ℕ) (script : PlainScript) → IsInstantiated bytes script → WritesLines script (btor_text script)
 
 -- the written text is correct for the script that the file with this name spells
-pub record IsServed (files : Files) (name : List ℕ) (before now : Option (List ℕ)) : Type 0 where
+pub record IsCorrectOutput (files : Files) (name : List ℕ) (before now : Option (List ℕ)) : Type 0 where
   pub bytes : List ℕ
   pub there : file_at files name ≡ Some bytes
   pub script : PlainScript

@@ -12,7 +12,7 @@ ghost use Rattle.command_core.specs.Reading.{StopsUnread, StopsWith};
 ghost use Rattle.command_core.specs.laws.Texts.{text_says};
 ghost use Rattle.moxi_commands.specs.Limits.{most_script_bytes};
 ghost use Rattle.moxi_commands.specs.Scripts.{IsSystemRefusal, script_too_long};
-ghost use Rattle.moxi_commands.specs.Translation.{IsBtorText, IsLinesEnd, IsLinesText, LinesStand, OfBytes, ScriptLinesAreLaidOut, btor_text};
+ghost use Rattle.moxi_commands.specs.Translation.{IsBtorText, IsLinesEnd, IsLinesText, LinesAreCorrect, OfBytes, ScriptLinesAreLaidOut, btor_text};
 
 use crate::scripts::{SCRIPT_LIMIT, script_of};
 use btor_text::print_btor;
@@ -121,8 +121,8 @@ pub fn script_lines_are_laid_out()
 ///
 /// A trace meets query j at step k exactly where the lines have frames 0 to k. In these frames every constraint is true,
 /// and bad line j is true in the last one.
-pub fn lines_stand()
-    ensures { LinesStand }
+pub fn lines_are_correct()
+    ensures { LinesAreCorrect }
 {
     spelled_scripts_are_whole();
     script_lines_are_laid_out();

@@ -17,7 +17,7 @@ use Rattle.smv_commands.specs.Limits.{most_smv_bytes}
 use Rattle.smv_commands.specs.Models.{IsCheckRefusal, IsFormIn, smv_too_long}
 use Rattle.smv_commands.proofs.Checked.{not_checked, one_check_refusal}
 use Rattle.smv_commands.proofs.Sources.{same_model}
-use Rattle.smv_commands.specs.Translation.{Accepts, IsBtorText, IsServed, IsTranslation, OfBytes, TranslatesTo, TranslationsStand, btor_text}
+use Rattle.smv_commands.specs.Translation.{Accepts, IsBtorText, IsCorrectOutput, IsTranslation, OfBytes, TranslatesTo, TranslationsAreCorrect, btor_text}
 
 one_btor_text : (bytes x y : List ℕ) → IsBtorText bytes x → IsBtorText bytes y → x ≡ y
 one_btor_text bytes x y h k = h.2 ∙ ap btor_text (same_model bytes h.0 k.0 h.1.is_model k.1.is_model) ∙ sym k.2
@@ -34,8 +34,8 @@ pub accepted_answer : (fs : Files) (model bytes : List ℕ) (source : PlainSourc
 accepted_answer fs model bytes source there a =
     on_read fs model bytes most_smv_bytes smv_too_long OfBytes (Done (Text (btor_text source))) there a.is_model.within (source, a, refl)
 
-served_bytes : (stands : TranslationsStand) (fs : Files) (model bytes : List ℕ) (b : Answer) (before now : Option (List ℕ)) → file_at fs model ≡ Some bytes → OfBytes bytes b → status_of b ≡ status.Done → now ≡ grown before (text_of b) → IsServed fs model before now
-served_bytes stands fs model bytes b before now there h s w =
+correct_bytes : (stands : TranslationsAreCorrect) (fs : Files) (model bytes : List ℕ) (b : Answer) (before now : Option (List ℕ)) → file_at fs model ≡ Some bytes → OfBytes bytes b → status_of b ≡ status.Done → now ≡ grown before (text_of b) → IsCorrectOutput fs model before now
+correct_bytes stands fs model bytes b before now there h s w =
     let t = done_text (IsBtorText bytes) (IsCheckRefusal bytes 0) b h s in
     record { bytes = bytes; there = there; source = t.0; accepted = t.1; text = text_of b; written = w; translated = subst (TranslatesTo t.0) (sym t.2) (stands bytes t.0 t.1) }
 
@@ -45,6 +45,6 @@ made_of_bytes bytes f (Ok text) form h = (form.source, form.accepted, h form.sou
 made_of_bytes bytes f (Err e) form h = tt
 
 -- a text that was written whole stands for its model
-pub served : (stands : TranslationsStand) (fs : Files) (model : List ℕ) (b : Answer) (before now : Option (List ℕ)) → IsTranslation fs model b → status_of b ≡ status.Done → now ≡ grown before (text_of b) → IsServed fs model before now
-served stands fs model b before now h s w =
-    done_from fs model most_smv_bytes smv_too_long OfBytes b refl h s (λ bytes there g. served_bytes stands fs model bytes b before now there g s w)
+pub correct_output : (stands : TranslationsAreCorrect) (fs : Files) (model : List ℕ) (b : Answer) (before now : Option (List ℕ)) → IsTranslation fs model b → status_of b ≡ status.Done → now ≡ grown before (text_of b) → IsCorrectOutput fs model before now
+correct_output stands fs model b before now h s w =
+    done_from fs model most_smv_bytes smv_too_long OfBytes b refl h s (λ bytes there g. correct_bytes stands fs model bytes b before now there g s w)

@@ -142,9 +142,9 @@ done_second {S} second (Some text) next b h s go = by_length (nat_lt most_trace_
     by_length true g = let e : status.SecondRefused ≡ status.Done = sym (ap status_of g) ∙ s in absurd (cc)
     by_length false g = go text refl g
 
-served_bytes : (lowers : RunsAreLowered) (fs : Files) (model second bytes : List ℕ) (j : ℕ) (b : Answer) (before now : Option (List ℕ)) → file_at fs model ≡ Some bytes → OfBytes lowered_answer fs second j bytes b → status_of b ≡ status.Done → now ≡ grown before (text_of b)
+correct_bytes : (lowers : RunsAreLowered) (fs : Files) (model second bytes : List ℕ) (j : ℕ) (b : Answer) (before now : Option (List ℕ)) → file_at fs model ≡ Some bytes → OfBytes lowered_answer fs second j bytes b → status_of b ≡ status.Done → now ≡ grown before (text_of b)
     → IsLoweredTrace fs model second j before now
-served_bytes lowers fs model second bytes j b before now there (inl x) s w =
+correct_bytes lowers fs model second bytes j b before now there (inl x) s w =
     let source = x.0 in
     done_second second (file_at fs second) (OfText lowered_answer source j) b x.2 s (λ trace second_there h.
     done_trace source j (trace_of (declared_by source) trace) b h s (λ run states judged e. record {
@@ -159,14 +159,14 @@ served_bytes lowers fs model second bytes j b before now there (inl x) s w =
       judged = judged;
       text = lowered_text source j run;
       written = w ∙ ap (λ a. grown before (text_of a)) e;
-      stands = lowers bytes j source x.1 trace run states judged;
+      stated = lowers bytes j source x.1 trace run states judged;
     }))
-served_bytes lowers fs model second bytes j b before now there (inr r) s w = let e : status.Refused ≡ status.Done = sym (ap status_of r.2) ∙ s in absurd (cc)
+correct_bytes lowers fs model second bytes j b before now there (inr r) s w = let e : status.Refused ≡ status.Done = sym (ap status_of r.2) ∙ s in absurd (cc)
 
 -- a witness that was written whole states the run of the trace
-pub served : (lowers : RunsAreLowered) (fs : Files) (model second : List ℕ) (j : ℕ) (b : Answer) (before now : Option (List ℕ)) → IsLowering fs model second j b → status_of b ≡ status.Done → now ≡ grown before (text_of b) → IsLoweredTrace fs model second j before now
-served lowers fs model second j b before now h s w =
-    done_from fs model most_smv_bytes smv_too_long (OfBytes lowered_answer fs second j) b refl h s (λ bytes there g. served_bytes lowers fs model second bytes j b before now there g s w)
+pub correct_output : (lowers : RunsAreLowered) (fs : Files) (model second : List ℕ) (j : ℕ) (b : Answer) (before now : Option (List ℕ)) → IsLowering fs model second j b → status_of b ≡ status.Done → now ≡ grown before (text_of b) → IsLoweredTrace fs model second j before now
+correct_output lowers fs model second j b before now h s w =
+    done_from fs model most_smv_bytes smv_too_long (OfBytes lowered_answer fs second j) b refl h s (λ bytes there g. correct_bytes lowers fs model second bytes j b before now there g s w)
 
 -- a text that is read as a trace is within the limit
 within_most : (source : PlainSource) (trace : List ℕ) (run : Run) → trace_of (declared_by source) trace ≡ Ok run → length trace ≤ most_trace_bytes

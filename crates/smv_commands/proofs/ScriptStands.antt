@@ -17,7 +17,7 @@ use Rattle.moxi_script_print.specs.Again.{with_place}
 use Rattle.command_core.specs.declared.answer.Answer.{Answer}
 use Rattle.command_core.specs.laws.Texts.{one_answer}
 use Rattle.btor_commands.specs.Traces.{HasTrace}
-use Rattle.smv_commands.specs.Scripts.{IsScript, IsScriptText, OfBytes, StandsForModel, moxi_text}
+use Rattle.smv_commands.specs.Scripts.{IsScript, IsScriptText, OfBytes, RepresentsModel, moxi_text}
 use Rattle.text_core.specs.Outside.{Files}
 use Rattle.command_core.specs.Reading.{file_within}
 use Rattle.command_core.specs.laws.Files.{goes_once}
@@ -57,7 +57,7 @@ module _ (source : PlainSource) (p : Place) (has : HasQueries source)
       let m = traced j k r in
       record { query = query_of j; there = has.each j h; trace = m.0; meets = met_here (script_for source) p (query_of j) k m.0 m.1 }
 
-  pub stands : StandsForModel source (with_place (script_for source) p)
+  pub stands : RepresentsModel source (with_place (script_for source) p)
   stands = record {
     queries = has.counted;
     runs = λ j k h. (has_trace j k h, has_run j k h);

@@ -123,9 +123,9 @@ refusal_given files second bytes refusal h = of_each files (λ fs. inr (refusal,
 
 -- ---- what a trace stands for
 
-served_bytes : (lifts : RunsAreLifted) (fs : Files) (model second bytes : List ℕ) (b : Answer) (before now : Option (List ℕ)) → file_at fs model ≡ Some bytes → OfBytes fs second bytes b → status_of b ≡ status.Done → now ≡ grown before (text_of b)
+correct_bytes : (lifts : RunsAreLifted) (fs : Files) (model second bytes : List ℕ) (b : Answer) (before now : Option (List ℕ)) → file_at fs model ≡ Some bytes → OfBytes fs second bytes b → status_of b ≡ status.Done → now ≡ grown before (text_of b)
     → IsLiftedTrace fs model second before now
-served_bytes lifts fs model second bytes b before now there (inl x) s w =
+correct_bytes lifts fs model second bytes b before now there (inl x) s w =
     done_second fs second x.2.0 (lifted_trace x.0) b x.2.2 s (λ text witness second_there spelled judged e. record {
       bytes = bytes;
       there = there;
@@ -142,12 +142,12 @@ served_bytes lifts fs model second bytes b before now there (inl x) s w =
       written = w ∙ ap (λ a. grown before (text_of a)) e;
       lifts = lifts bytes x.0 x.1 x.2.0 x.2.1 text witness spelled judged;
     })
-served_bytes lifts fs model second bytes b before now there (inr r) s w = let e : status.Refused ≡ status.Done = sym (ap status_of r.2) ∙ s in absurd (cc)
+correct_bytes lifts fs model second bytes b before now there (inr r) s w = let e : status.Refused ≡ status.Done = sym (ap status_of r.2) ∙ s in absurd (cc)
 
 -- a trace that was written whole is that to which the witness is lifted
-pub served : (lifts : RunsAreLifted) (fs : Files) (model second : List ℕ) (b : Answer) (before now : Option (List ℕ)) → IsSmvLift fs model second b → status_of b ≡ status.Done → now ≡ grown before (text_of b) → IsLiftedTrace fs model second before now
-served lifts fs model second b before now h s w =
-    done_from fs model most_smv_bytes smv_too_long (OfBytes fs second) b refl h s (λ bytes there g. served_bytes lifts fs model second bytes b before now there g s w)
+pub correct_output : (lifts : RunsAreLifted) (fs : Files) (model second : List ℕ) (b : Answer) (before now : Option (List ℕ)) → IsSmvLift fs model second b → status_of b ≡ status.Done → now ≡ grown before (text_of b) → IsLiftedTrace fs model second before now
+correct_output lifts fs model second b before now h s w =
+    done_from fs model most_smv_bytes smv_too_long (OfBytes fs second) b refl h s (λ bytes there g. correct_bytes lifts fs model second bytes b before now there g s w)
 
 -- the defined answer to a witness that the judge accepts
 pub accepted_answer : (fs : Files) (model second bytes text : List ℕ) (source : PlainSource) (lines : List Line) (w : Witness) → file_at fs model ≡ Some bytes → Accepts bytes source → SpellsLines (btor_text source) lines

@@ -68,4 +68,4 @@ pub record IsLoweredTrace (files : Files) (model second : List ℕ) (j : ℕ) (b
   pub judged : verdict_on source j run ≡ verdict.Yes
   pub text : List ℕ
   pub written : now ≡ grown before text
-  pub stands : StatesRun source j run text
+  pub stated : StatesRun source j run text

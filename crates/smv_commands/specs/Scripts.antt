@@ -34,21 +34,21 @@ IsScript files model answer = GoesOn (file_within files model most_smv_bytes smv
 
 -- the script is a translation of the model: it has a query for each invariant, and a run breaks invariant j after k steps exactly
 -- where a trace meets query j at step k
-pub record StandsForModel (source : PlainSource) (script : PlainScript) : Type 0 where
+pub record RepresentsModel (source : PlainSource) (script : PlainScript) : Type 0 where
   pub queries : length script.check.queries ≡ invariant_count source
   pub runs : (j k : ℕ) → j < invariant_count source → HasRun source j k ↔ HasTrace script j k
 
 -- the text spells a script, and each script that it spells is a translation of the model
 pub record WritesScript (source : PlainSource) (text : List ℕ) : Type 0 where
   pub there : (script : PlainScript) × SpellsText text script
-  pub each : (script : PlainScript) → SpellsText text script → StandsForModel source script
+  pub each : (script : PlainScript) → SpellsText text script → RepresentsModel source script
 
 -- the text written for each accepted model is correct
-abbrev pub ScriptsStand : Type 0
-ScriptsStand = (bytes : List ℕ) (source : PlainSource) → IsAcceptedModel bytes 0 source → WritesScript source (moxi_text source)
+abbrev pub ScriptsAreCorrect : Type 0
+ScriptsAreCorrect = (bytes : List ℕ) (source : PlainSource) → IsAcceptedModel bytes 0 source → WritesScript source (moxi_text source)
 
 -- the written text is correct for the model that the file with this name spells
-pub record IsServed (files : Files) (name : List ℕ) (before now : Option (List ℕ)) : Type 0 where
+pub record IsCorrectOutput (files : Files) (name : List ℕ) (before now : Option (List ℕ)) : Type 0 where
   pub bytes : List ℕ
   pub there : file_at files name ≡ Some bytes
   pub source : PlainSource

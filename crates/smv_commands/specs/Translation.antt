@@ -47,11 +47,11 @@ pub record TranslatesTo (source : PlainSource) (text : List ℕ) : Type 0 where
   pub distinct : HasNoTwoAlike lines
 
 -- the text written for each accepted model is correct
-abbrev pub TranslationsStand : Type 0
-TranslationsStand = (bytes : List ℕ) (source : PlainSource) → Accepts bytes source → TranslatesTo source (btor_text source)
+abbrev pub TranslationsAreCorrect : Type 0
+TranslationsAreCorrect = (bytes : List ℕ) (source : PlainSource) → Accepts bytes source → TranslatesTo source (btor_text source)
 
 -- the written text is correct for the model that the file with this name spells
-pub record IsServed (files : Files) (name : List ℕ) (before now : Option (List ℕ)) : Type 0 where
+pub record IsCorrectOutput (files : Files) (name : List ℕ) (before now : Option (List ℕ)) : Type 0 where
   pub bytes : List ℕ
   pub there : file_at files name ≡ Some bytes
   pub source : PlainSource

@@ -11,6 +11,6 @@ mod translate;
 pub use judge_smv::judge_smv_files;
 pub use lower::{lower_smv_files, runs_are_lowered};
 pub use models::{SMV_LIMIT, chain_in, flat_in, model_of};
-pub use script::{scripts_stand, smv_to_moxi};
+pub use script::{scripts_are_correct, smv_to_moxi};
 pub use traces::{lift_smv_files, runs_are_lifted};
-pub use translate::{smv_to_btor, translations_stand};
+pub use translate::{smv_to_btor, translations_are_correct};

@@ -11,7 +11,7 @@ ghost use Rattle.smv_flatten.specs.FlatModel.{flat_plain};
 ghost use Rattle.moxi_term_print.specs.Shown.{lines_text};
 ghost use Rattle.moxi_script_print.specs.Printing.{shown_script};
 ghost use Rattle.smv_commands.specs.Models.{IsCheckRefusal, IsModelEnd, smv_too_long};
-ghost use Rattle.smv_commands.specs.Scripts.{IsScript, IsScriptText, OfBytes, ScriptsStand};
+ghost use Rattle.smv_commands.specs.Scripts.{IsScript, IsScriptText, OfBytes, ScriptsAreCorrect};
 
 use crate::models::{SMV_LIMIT, flat_in};
 use command_core::{Answer, LastFile, Stop, answer_file, refusal, text_answer};
@@ -88,8 +88,8 @@ fn text_of(alloc: Global, flat: &Flat) -> Result<Text, NoMemory>
 ///
 /// Some trace of the script meets query j at step k exactly where the model has a run that breaks invariant j. Such a
 /// run has k transitions, and its last state breaks the invariant.
-pub fn scripts_stand()
-    ensures { ScriptsStand }
+pub fn scripts_are_correct()
+    ensures { ScriptsAreCorrect }
 {
     scripts_are_whole();
     names_are_spellable();

@@ -10,7 +10,7 @@ ghost use Rattle.smv_text.specs.Tree.{PlainSource};
 ghost use Rattle.witness_lift.specs.Breaking.{IsFormOf};
 ghost use Rattle.smv_commands.specs.Limits.{most_smv_bytes};
 ghost use Rattle.smv_commands.specs.Models.{IsCheckRefusal, IsModelEnd, smv_too_long};
-ghost use Rattle.smv_commands.specs.Translation.{IsBtorText, IsTranslation, OfBytes, TranslationsStand, btor_text};
+ghost use Rattle.smv_commands.specs.Translation.{IsBtorText, IsTranslation, OfBytes, TranslationsAreCorrect, btor_text};
 
 use crate::models::{SMV_LIMIT, chain_in};
 use btor_text::print_btor;
@@ -89,8 +89,8 @@ fn chain_text(alloc: Global, chain: &SmvChain) -> Result<Text, End>
 /// Frames 0 to k with every constraint true reach bad line j at frame k exactly where a run breaks invariant j. Such a
 /// run has k transitions, and its last state breaks the invariant. The lines are few, and no two sorts, constants or
 /// operators among them are the same.
-pub fn translations_stand()
-    ensures { TranslationsStand }
+pub fn translations_are_correct()
+    ensures { TranslationsAreCorrect }
 {
     models_have_frames();
     model_lines_are_counted();

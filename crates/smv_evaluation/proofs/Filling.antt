@@ -15,7 +15,7 @@ use Rattle.smv_meaning.specs.Phases.{Body}
 use Rattle.name_maps.specs.Maps.{named_in}
 use Rattle.smv_meaning.specs.Settled.{has_body, values_in}
 use Rattle.smv_meaning.specs.Bodies.{IsBodyOrder}
-use Rattle.smv_evaluation.specs.Rows.{AreGiven, kept_value, row_values, FoundKept, IsKept, is_marked, MarksClosed, is_written, LocalReady, local_value, LocalSafe, MarkedSafe, MarkedKept, KeepsMarked}
+use Rattle.smv_evaluation.specs.Rows.{AreGiven, cached_value, row_values, FoundIsCached, IsCached, is_marked, MarksClosed, is_written, LocalReady, local_value, LocalSafe, MarkedSafe, MarkedAreCached, KeepsMarked}
 use Rattle.smv_meaning.specs.Reached.{is_body_of, local_leads_to}
 use Rattle.smv_instances.specs.View.{instance_plain}
 use Rattle.smv_evaluation.specs.View.{stated}
@@ -30,12 +30,12 @@ use Rattle.smv_evaluation.proofs.RowReads.{kept, safely_kept, denoted_kept}
 -- up to a place in the order the values of what is marked are kept
 abbrev pub KeptUpto : {S : Type 0} → List PartOf → List ℕ → HashMap (ℕ × Bor (List ℕ)) Bool S → Row → Values → ℕ → Type 0
 KeptUpto ts order marks row label n = (k : ℕ) (x : List ℕ) (j : ℕ) (e : Tree) → order_rank (map instance_plain ts) order (key k x) ≤ n → is_marked marks k x ≡ true
-    → local (map instance_plain ts) k x ≡ body_of j e → FoundKept ts row label (body_at k x j e)
+    → local (map instance_plain ts) k x ≡ body_of j e → FoundIsCached ts row label (body_at k x j e)
 
 -- what a path leads to is kept, where it stands before and is marked
 found_kept : {S : Type 0} (ts : List PartOf) (order : List ℕ) (marks : HashMap (ℕ × Bor (List ℕ)) Bool S) (row : Row) (label : Values) (n : ℕ) → KeptUpto ts order marks row label n
     → (m : Found) → Under (map instance_plain ts) (order_rank (map instance_plain ts) order) (n + 1) m
-    → ((k : ℕ) (x : List ℕ) → is_body_of k x m ≡ true → is_marked marks k x ≡ true) → FoundKept ts row label m
+    → ((k : ℕ) (x : List ℕ) → is_body_of k x m ≡ true → is_marked marks k x ≡ true) → FoundIsCached ts row label m
 found_kept ts order marks row label n h (body_at k x j e) u s = let low = u.0 in h k x j e (omega arith) (s k x (same_self (key k x))) u.1
 found_kept ts order marks row label n h (variable_at x kind d) u s = tt
 found_kept ts order marks row label n h (instance_at i) u s = tt
@@ -52,7 +52,7 @@ ready ts order o marks closed row label right labelled safe n l h i x at marked 
   where
     by : (m : Local) → local (map instance_plain ts) i x ≡ m → LocalSafe (values_in (map instance_plain ts) (stated row.state.given) (stated label.given)) m → LocalReady ts row label m
     by (body_of j e) is s =
-        let each : (q : Path) → In q (paths_of e []) → IsKept ts j row label q = λ q g.
+        let each : (q : Path) → In q (paths_of e []) → IsCached ts j row label q = λ q g.
         kept ts j row label q right labelled
         (found_kept ts order marks row label n h (found_in (map instance_plain ts) j q) (body_before (map instance_plain ts) order o n l i x at j e is q g)
         (λ k y b. closed i x k y marked (subst (λ m. local_leads_to (map instance_plain ts) m k y ≡ true) (sym is) (in_any (λ z. is_body_of k y (found_in (map instance_plain ts) j z)) q (paths_of e []) g b)))) in
@@ -81,13 +81,13 @@ kept_on ts order o marks was now label n l i x at same put h k y j e low marked 
         ap (λ (q : Body). is_marked marks q.0 q.1 && (is_written (local (map instance_plain ts) q.0 q.1) && (q.0 == k && bytes_eq q.1 y))) s
         ∙ ap (λ b. b && (is_written (local (map instance_plain ts) k y) && (k == k && bytes_eq y y))) marked ∙ ap (λ m. is_written m && (k == k && bytes_eq y y)) is ∙ same_self (key k y)
 
-    by : (picked ≡ true) ⊎ (picked ≡ false) → (if picked then local_value ts was label (local (map instance_plain ts) i x) else kept_value (named_in was.bodies k y)) ≡ (denote (row_values ts was label j) (row_values ts was label j) e).value
+    by : (picked ≡ true) ⊎ (picked ≡ false) → (if picked then local_value ts was label (local (map instance_plain ts) i x) else cached_value (named_in was.bodies k y)) ≡ (denote (row_values ts was label j) (row_values ts was label j) e).value
     by (inl b) =
         let c = both_true (is_marked marks i x) (is_written (local (map instance_plain ts) i x) && (i == k && bytes_eq x y)) b in
         let d = both_true (is_written (local (map instance_plain ts) i x)) (i == k && bytes_eq x y) c.1 in
-        ap (λ z. if z then local_value ts was label (local (map instance_plain ts) i x) else kept_value (named_in was.bodies k y)) b ∙ own (same_is (key i x) (key k y) d.1)
+        ap (λ z. if z then local_value ts was label (local (map instance_plain ts) i x) else cached_value (named_in was.bodies k y)) b ∙ own (same_is (key i x) (key k y) d.1)
     by (inr b) =
-        ap (λ z. if z then local_value ts was label (local (map instance_plain ts) i x) else kept_value (named_in was.bodies k y)) b
+        ap (λ z. if z then local_value ts was label (local (map instance_plain ts) i x) else cached_value (named_in was.bodies k y)) b
         ∙ ⊎_elim (λ r. h k y j e (omega (arith, r)) marked is)
         (λ r.
         let there : order_rank (map instance_plain ts) order (key k y) ≡ n + 1 = omega (arith, r, low) in
@@ -96,7 +96,7 @@ kept_on ts order o marks was now label n l i x at same put h k y j e low marked 
         (cases_lt (order_rank (map instance_plain ts) order (key k y)) (n + 1))
 
 pub kept_end : {S : Type 0} (ts : List PartOf) (order : List ℕ) → IsBodyOrder (map instance_plain ts) order → (marks : HashMap (ℕ × Bor (List ℕ)) Bool S) (row : Row) (label : Values) (n : ℕ) → length order ≤ n
-    → KeptUpto ts order marks row label n → MarkedKept ts marks row label
+    → KeptUpto ts order marks row label n → MarkedAreCached ts marks row label
 kept_end ts order o marks row label n l h k x j e marked is =
     h k x j e (let low = rank_low (map instance_plain ts) order o (key k x) (in_keys (map instance_plain ts) k x (ap has_body is)) in omega (arith, low, l)) marked is
 

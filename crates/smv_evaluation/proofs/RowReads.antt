@@ -13,7 +13,7 @@ use Rattle.smv_meaning.specs.Meaning.{value_found}
 use Rattle.smv_meaning.specs.Expressions.{denote, paths_of, link_paths, branch_paths, tree_paths}
 use Rattle.smv_meaning.specs.Safety.{front_value, Safe, SafeLinks, SafeOperands, SafeBranches, SafeTrees}
 use Rattle.smv_meaning.specs.Settled.{Acyclic}
-use Rattle.smv_evaluation.specs.Rows.{AreGiven, row_values, row_reads, FoundKept, IsKept}
+use Rattle.smv_evaluation.specs.Rows.{AreGiven, row_values, row_reads, FoundIsCached, IsCached}
 use Rattle.smv_instances.specs.View.{instance_plain, found_here}
 use Rattle.smv_evaluation.specs.View.{stated}
 use Rattle.smv_laws.proofs.Cycles.{In}
@@ -81,24 +81,24 @@ pub reads_are : (ts : List PartOf) → Acyclic (map instance_plain ts) → (i : 
 unfolding row_reads
 reads_are ts a i row label = fun_ext (λ path. sym (values_settle_law (map instance_plain ts) a (stated row.state.given) (stated label.given) i path))
 
-pub kept : (ts : List PartOf) (i : ℕ) (row : Row) (label : Values) (q : Path) → AreGiven row.state → AreGiven label → FoundKept ts row label (found_here ts i q) → IsKept ts i row label q
-unfolding IsKept
+pub kept : (ts : List PartOf) (i : ℕ) (row : Row) (label : Values) (q : Path) → AreGiven row.state → AreGiven label → FoundIsCached ts row label (found_here ts i q) → IsCached ts i row label q
+unfolding IsCached
 kept ts i row label q s l f = (s, l, f)
 
 -- what is owed of a name
-pub is_kept : (ts : List PartOf) (i : ℕ) (row : Row) (label : Values) (q : Path) → IsKept ts i row label q → AreGiven row.state × AreGiven label × FoundKept ts row label (found_here ts i q)
-unfolding IsKept
+pub is_kept : (ts : List PartOf) (i : ℕ) (row : Row) (label : Values) (q : Path) → IsCached ts i row label q → AreGiven row.state × AreGiven label × FoundIsCached ts row label (found_here ts i q)
+unfolding IsCached
 is_kept ts i row label q h = h
 
 -- an expression is safely evaluated by what is kept
 pub safely_kept : (ts : List PartOf) → Acyclic (map instance_plain ts) → (P Q : Path → Type 0) (i : ℕ) (row later : Row) (label : Values) (e : Tree)
     → Safe P Q (row_values ts row label i) (row_values ts later label i) e
-    → ((q : Path) → In q (paths_of e []) → IsKept ts i row label q × IsKept ts i later label q)
-    → Safe (IsKept ts i row label) (IsKept ts i later label) (row_reads ts i row label) (row_reads ts i later label) e
+    → ((q : Path) → In q (paths_of e []) → IsCached ts i row label q × IsCached ts i later label q)
+    → Safe (IsCached ts i row label) (IsCached ts i later label) (row_reads ts i row label) (row_reads ts i later label) e
 safely_kept ts a P Q i row later label e s h =
-    let there = safe_holds P Q (IsKept ts i row label) (IsKept ts i later label) (row_values ts row label i) (row_values ts later label i) e [] h s in
-    let first = subst (λ f. Safe (IsKept ts i row label) (IsKept ts i later label) f (row_values ts later label i) e) (sym (reads_are ts a i row label)) there in
-    subst (λ g. Safe (IsKept ts i row label) (IsKept ts i later label) (row_reads ts i row label) g e) (sym (reads_are ts a i later label)) first
+    let there = safe_holds P Q (IsCached ts i row label) (IsCached ts i later label) (row_values ts row label i) (row_values ts later label i) e [] h s in
+    let first = subst (λ f. Safe (IsCached ts i row label) (IsCached ts i later label) f (row_values ts later label i) e) (sym (reads_are ts a i row label)) there in
+    subst (λ g. Safe (IsCached ts i row label) (IsCached ts i later label) (row_reads ts i row label) g e) (sym (reads_are ts a i later label)) first
 
 pub denoted_kept : (ts : List PartOf) → Acyclic (map instance_plain ts) → (i : ℕ) (row later : Row) (label : Values) (e : Tree)
     → (denote (row_reads ts i row label) (row_reads ts i later label) e).value ≡ (denote (row_values ts row label i) (row_values ts later label i) e).value

@@ -26,7 +26,7 @@ use Rattle.smv_evaluation.specs.View.{stated}
 use Rattle.smv_meaning.specs.Literals.{words_fit}
 use Rattle.smv_meaning.specs.Parts.{StandsIn}
 use Rattle.smv_meaning.specs.Checked.{IsChecked, all_trees, reaches_an_input}
-use Rattle.smv_evaluation.specs.Rows.{AreGiven, row_reads, FoundKept, IsKept, is_marked, MarksStart, MarksLeast, LocalSafe, MarkedSafe, MarkedKept}
+use Rattle.smv_evaluation.specs.Rows.{AreGiven, row_reads, FoundIsCached, IsCached, is_marked, MarksStart, MarksLeast, LocalSafe, MarkedSafe, MarkedAreCached}
 use Rattle.smv_meaning.specs.Reached.{is_body_of}
 use Rattle.smv_laws.proofs.Cycles.{In, in_any, same_self}
 use Rattle.smv_laws.proofs.Ranked.{key}
@@ -42,7 +42,7 @@ States = Option (Bor (List Given))
 pub record Asked (t : List Instance) (i : ℕ) (e : Tree) (state : Valuation) (label following : States) : Type 0 where
   pub checked : IsChecked t
   pub words : all_trees words_fit t ≡ true
-  pub stands : StandsIn t i e
+  pub occurs : StandsIn t i e
   pub reach : (is_some label || not (reaches_an_input t i e)) ≡ true
   pub now_fits : state_fits t state ≡ true
   pub label_fits : label_given t label ≡ true
@@ -89,10 +89,10 @@ marked_safe t i e state label following a marks least s gives k x m =
 pub record IsRow {S : Type 0} (ts : List PartOf) (marks : HashMap (ℕ × Bor (List ℕ)) Bool S) (row : Row) (label : Values) (values : Valuation) : Type 0 where
   pub state : stated row.state.given ≡ values
   pub right : AreGiven row.state
-  pub kept : MarkedKept ts marks row label
+  pub kept : MarkedAreCached ts marks row label
 
-pub found_kept : {S : Type 0} (ts : List PartOf) (marks : HashMap (ℕ × Bor (List ℕ)) Bool S) (row : Row) (label : Values) → MarkedKept ts marks row label → (rank : ℕ)
-    → (m : Found) → Under (map instance_plain ts) (rank_of (map instance_plain ts)) rank m → ((k : ℕ) (x : List ℕ) → is_body_of k x m ≡ true → is_marked marks k x ≡ true) → FoundKept ts row label m
+pub found_kept : {S : Type 0} (ts : List PartOf) (marks : HashMap (ℕ × Bor (List ℕ)) Bool S) (row : Row) (label : Values) → MarkedAreCached ts marks row label → (rank : ℕ)
+    → (m : Found) → Under (map instance_plain ts) (rank_of (map instance_plain ts)) rank m → ((k : ℕ) (x : List ℕ) → is_body_of k x m ≡ true → is_marked marks k x ≡ true) → FoundIsCached ts row label m
 found_kept ts marks row label h rank (body_at k x j e) u s = h k x j e (s k x (same_self (key k x))) u.1
 found_kept ts marks row label h rank (variable_at x kind d) u s = tt
 found_kept ts marks row label h rank (instance_at i) u s = tt
@@ -103,10 +103,10 @@ found_kept ts marks row label h rank none u s = tt
 pub safe_at : {S : Type 0} (ts : List PartOf) (i : ℕ) (e : Tree) (state : Valuation) (label following : States) → Asked (map instance_plain ts) i e state label following
     → (marks : HashMap (ℕ × Bor (List ℕ)) Bool S) → MarksStart (map instance_plain ts) i e marks → (here later : Row) (labels : Values) → labels.given ≡ label → AreGiven labels
     → IsRow ts marks here labels state → IsRow ts marks later labels (following_or state following)
-    → Safe (IsKept ts i here labels) (IsKept ts i later labels) (row_reads ts i here labels) (row_reads ts i later labels) e
+    → Safe (IsCached ts i here labels) (IsCached ts i later labels) (row_reads ts i here labels) (row_reads ts i later labels) e
 safe_at ts i e state label following a marks start here later labels el right r s =
     let base = expressions_are_safe_law (map instance_plain ts) a.checked a.words (is_some label) state (stated label) (following_or state following)
-    (gives_now (map instance_plain ts) i e state label following a) (gives_later (map instance_plain ts) i e state label following a) i e a.stands a.reach in
+    (gives_now (map instance_plain ts) i e state label following a) (gives_later (map instance_plain ts) i e state label following a) i e a.occurs a.reach in
     let P : Valuation → Path → Type 0 = λ v. SafePath (found_in (map instance_plain ts)) (steps_of (map instance_plain ts)) v (stated label) i in
     let Q : Valuation → Valuation → Valuation → Type 0 = λ v w l. Safe (P state) (P (following_or state following)) (values_in (map instance_plain ts) v l i) (values_in (map instance_plain ts) w l i) e in
     let first : Q (stated here.state.given) (following_or state following) (stated label) = subst (λ v. Q v (following_or state following) (stated label)) (sym r.state) base in
@@ -115,7 +115,7 @@ safe_at ts i e state label following a marks start here later labels el right r 
     safely_kept ts (acyclic (map instance_plain ts) a.checked) (P state) (P (following_or state following)) i here later labels e third
     (λ q g. (each here r.right r.kept q g, each later s.right s.kept q g))
   where
-    each : (row : Row) → AreGiven row.state → MarkedKept ts marks row labels → (q : Path) → In q (paths_of e []) → IsKept ts i row labels q
+    each : (row : Row) → AreGiven row.state → MarkedAreCached ts marks row labels → (q : Path) → In q (paths_of e []) → IsCached ts i row labels q
     each row k h q g =
         kept ts i row labels q k right
         (found_kept ts marks row labels h (steps_of (map instance_plain ts)) (found_in (map instance_plain ts) i q)

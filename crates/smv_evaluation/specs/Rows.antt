@@ -45,9 +45,9 @@ AreGiven values = (p : List ℕ) (x : List ℕ) → found_value (at_dotted value
 -- ---- values of names
 
 -- what is kept, or what stands for a value where there is none
-abbrev pub kept_value : Option Seen → Value
-kept_value None = no_value
-kept_value (Some s) = seen_value s
+abbrev pub cached_value : Option Seen → Value
+cached_value None = no_value
+cached_value (Some s) = seen_value s
 
 -- the values of all names in the state under the label
 abbrev pub row_values : List PartOf → Row → Values → ℕ → Path → Value
@@ -58,13 +58,13 @@ unfoldable pub row_reads : List PartOf → ℕ → Row → Values → Path → V
 row_reads ts i row label path = value_found (row_values ts row label) (stated row.state.given) (stated label.given) (found_here ts i path)
 
 -- the value of a definition or an actual is kept
-abbrev pub FoundKept : List PartOf → Row → Values → Found → Type 0
-FoundKept ts row label (body_at k x j e) = kept_value (named_in row.bodies k x) ≡ (denote (row_values ts row label j) (row_values ts row label j) e).value
-FoundKept ts row label m = Unit {0}
+abbrev pub FoundIsCached : List PartOf → Row → Values → Found → Type 0
+FoundIsCached ts row label (body_at k x j e) = cached_value (named_in row.bodies k x) ≡ (denote (row_values ts row label j) (row_values ts row label j) e).value
+FoundIsCached ts row label m = Unit {0}
 
 -- what is owed of a name, so that its value is read in the row
-unfoldable pub IsKept : List PartOf → ℕ → Row → Values → Path → Type 0
-IsKept ts i row label path = AreGiven row.state × AreGiven label × FoundKept ts row label (found_here ts i path)
+unfoldable pub IsCached : List PartOf → ℕ → Row → Values → Path → Type 0
+IsCached ts i row label path = AreGiven row.state × AreGiven label × FoundIsCached ts row label (found_here ts i path)
 
 -- ---- what an expression reaches
 
@@ -98,7 +98,7 @@ is_written l = false
 
 -- its body is safely evaluated by what is kept
 abbrev pub LocalReady : List PartOf → Row → Values → Local → Type 0
-LocalReady ts row label (body_of j e) = Safe (IsKept ts j row label) (IsKept ts j row label) (row_reads ts j row label) (row_reads ts j row label) e
+LocalReady ts row label (body_of j e) = Safe (IsCached ts j row label) (IsCached ts j row label) (row_reads ts j row label) (row_reads ts j row label) e
 LocalReady ts row label l = Unit {0}
 
 abbrev pub local_value : List PartOf → Row → Values → Local → Value
@@ -114,44 +114,44 @@ abbrev pub MarkedSafe : {S : Type 0} → List Instance → HashMap (ℕ × Bor (
 MarkedSafe t marks state label = (k : ℕ) (x : List ℕ) → is_marked marks k x ≡ true → LocalSafe (values_in t state label) (local t k x)
 
 -- the values of all that is marked are kept
-abbrev pub MarkedKept : {S : Type 0} → List PartOf → HashMap (ℕ × Bor (List ℕ)) Bool S → Row → Values → Type 0
-MarkedKept ts marks row label = (k : ℕ) (x : List ℕ) (j : ℕ) (e : Tree) → is_marked marks k x ≡ true → local (map instance_plain ts) k x ≡ body_of j e → FoundKept ts row label (body_at k x j e)
+abbrev pub MarkedAreCached : {S : Type 0} → List PartOf → HashMap (ℕ × Bor (List ℕ)) Bool S → Row → Values → Type 0
+MarkedAreCached ts marks row label = (k : ℕ) (x : List ℕ) (j : ℕ) (e : Tree) → is_marked marks k x ≡ true → local (map instance_plain ts) k x ≡ body_of j e → FoundIsCached ts row label (body_at k x j e)
 
 -- ---- an expression of an instance, by what is kept for this state and for the following one
 
-abbrev pub KeptSafe : List PartOf → ℕ → (now later : Row) → Values → Tree → Type 0
-KeptSafe ts i now later label e = Safe (IsKept ts i now label) (IsKept ts i later label) (row_reads ts i now label) (row_reads ts i later label) e
+abbrev pub CachedSafe : List PartOf → ℕ → (now later : Row) → Values → Tree → Type 0
+CachedSafe ts i now later label e = Safe (IsCached ts i now label) (IsCached ts i later label) (row_reads ts i now label) (row_reads ts i later label) e
 
-abbrev pub KeptSafeLinks : List PartOf → ℕ → (now later : Row) → Values → Value → Links → Type 0
-KeptSafeLinks ts i now later label v ls = SafeLinks (IsKept ts i now label) (IsKept ts i later label) (row_reads ts i now label) (row_reads ts i later label) v ls
+abbrev pub CachedSafeLinks : List PartOf → ℕ → (now later : Row) → Values → Value → Links → Type 0
+CachedSafeLinks ts i now later label v ls = SafeLinks (IsCached ts i now label) (IsCached ts i later label) (row_reads ts i now label) (row_reads ts i later label) v ls
 
-abbrev pub KeptSafeBranches : List PartOf → ℕ → (now later : Row) → Values → Branches → Type 0
-KeptSafeBranches ts i now later label bs = SafeBranches (IsKept ts i now label) (IsKept ts i later label) (row_reads ts i now label) (row_reads ts i later label) bs
+abbrev pub CachedSafeBranches : List PartOf → ℕ → (now later : Row) → Values → Branches → Type 0
+CachedSafeBranches ts i now later label bs = SafeBranches (IsCached ts i now label) (IsCached ts i later label) (row_reads ts i now label) (row_reads ts i later label) bs
 
-abbrev pub kept_denote : List PartOf → ℕ → (now later : Row) → Values → Tree → Denotation
-kept_denote ts i now later label e = denote (row_reads ts i now label) (row_reads ts i later label) e
+abbrev pub cached_denote : List PartOf → ℕ → (now later : Row) → Values → Tree → Denotation
+cached_denote ts i now later label e = denote (row_reads ts i now label) (row_reads ts i later label) e
 
-abbrev pub kept_chosen : List PartOf → ℕ → (now later : Row) → Values → Branches → Denotation → Denotation
-kept_chosen ts i now later label bs d = chosen (row_reads ts i now label) (row_reads ts i later label) bs d
+abbrev pub cached_chosen : List PartOf → ℕ → (now later : Row) → Values → Branches → Denotation → Denotation
+cached_chosen ts i now later label bs d = chosen (row_reads ts i now label) (row_reads ts i later label) bs d
 
 -- the expression is the one that is chosen: the value of the first branch whose condition is true, else the last one
 abbrev pub IsChosen : List PartOf → ℕ → (now later : Row) → Values → Branches → (last e : Tree) → Type 0
-IsChosen ts i now later label bs last e = kept_denote ts i now later label e ≡ kept_chosen ts i now later label bs (kept_denote ts i now later label last)
+IsChosen ts i now later label bs last e = cached_denote ts i now later label e ≡ cached_chosen ts i now later label bs (cached_denote ts i now later label last)
 
-abbrev pub kept_taken : List PartOf → ℕ → (now later : Row) → Values → Branches → Denotation
-kept_taken ts i now later label bs = taken (row_reads ts i now label) (row_reads ts i later label) bs
+abbrev pub cached_taken : List PartOf → ℕ → (now later : Row) → Values → Branches → Denotation
+cached_taken ts i now later label bs = taken (row_reads ts i now label) (row_reads ts i later label) bs
 
 -- ---- what an evaluation changes
 
 -- the value of one of the names that are definitions or actuals with a body is kept, and those of all others stay
 abbrev pub KeepsLocal : List PartOf → (old new : Row) → Values → ℕ → List ℕ → Type 0
-KeepsLocal ts old new label i x = (k : ℕ) (y : List ℕ) → kept_value (named_in new.bodies k y)
-    ≡ (if is_written (local (map instance_plain ts) i x) && (i == k && bytes_eq x y) then local_value ts old label (local (map instance_plain ts) i x) else kept_value (named_in old.bodies k y))
+KeepsLocal ts old new label i x = (k : ℕ) (y : List ℕ) → cached_value (named_in new.bodies k y)
+    ≡ (if is_written (local (map instance_plain ts) i x) && (i == k && bytes_eq x y) then local_value ts old label (local (map instance_plain ts) i x) else cached_value (named_in old.bodies k y))
 
 -- the same, where the name is marked
 abbrev pub KeepsMarked : {S : Type 0} → List PartOf → HashMap (ℕ × Bor (List ℕ)) Bool S → (old new : Row) → Values → ℕ → List ℕ → Type 0
-KeepsMarked ts marks old new label i x = (k : ℕ) (y : List ℕ) → kept_value (named_in new.bodies k y)
-    ≡ (if is_marked marks i x && (is_written (local (map instance_plain ts) i x) && (i == k && bytes_eq x y)) then local_value ts old label (local (map instance_plain ts) i x) else kept_value (named_in old.bodies k y))
+KeepsMarked ts marks old new label i x = (k : ℕ) (y : List ℕ) → cached_value (named_in new.bodies k y)
+    ≡ (if is_marked marks i x && (is_written (local (map instance_plain ts) i x) && (i == k && bytes_eq x y)) then local_value ts old label (local (map instance_plain ts) i x) else cached_value (named_in old.bodies k y))
 
 -- what the body of the name leads to is marked too, where the name is marked itself
 abbrev pub MarkedOn : {S : Type 0} → List Instance → (old new : HashMap (ℕ × Bor (List ℕ)) Bool S) → ℕ → List ℕ → Type 0

@@ -5,7 +5,7 @@ ghost use Rattle.smv_text.specs.View.{plain, plain_branch, plain_link};
 ghost use Rattle.smv_meaning.specs.Operators.{called};
 ghost use Rattle.smv_meaning.specs.Expressions.{is_from_right as right_first, are_implies, is_implies, implications, values_of, one_permits};
 ghost use Rattle.smv_meaning.specs.Safety.{depth, branch_depth, Fits, front_value, fronts_value, fronts_permit, SafeTrees, SafeOperands};
-ghost use Rattle.smv_evaluation.specs.Rows.{row_reads, IsKept, KeptSafe, KeptSafeLinks, KeptSafeBranches, kept_denote, IsChosen, kept_taken};
+ghost use Rattle.smv_evaluation.specs.Rows.{row_reads, IsCached, CachedSafe, CachedSafeLinks, CachedSafeBranches, cached_denote, IsChosen, cached_taken};
 ghost use Rattle.smv_operators.specs.View.{seen_value, plain_value, plain_or};
 ghost use Rattle.smv_evaluation.specs.View.{denoted_or_none};
 
@@ -30,8 +30,8 @@ pub fn evaluate<'a>(
     label: &Values<'a>,
     later: &Row<'a>,
 ) -> Seen<'a>
-    requires safe { KeptSafe table.now i now.now later.now label.now (plain e.now) }
-    ensures { seen_value result ≡ (kept_denote table.now i now.now later.now label.now (plain e.now)).value }
+    requires safe { CachedSafe table.now i now.now later.now label.now (plain e.now) }
+    ensures { seen_value result ≡ (cached_denote table.now i now.now later.now label.now (plain e.now)).value }
 {
     match &e.shape {
         Shape::True => Seen::Truth(true),
@@ -140,7 +140,7 @@ fn rest_implied<'a>(
     label: &Values<'a>,
     later: &Row<'a>,
 ) -> Option<Plain>
-    requires safe { SafeOperands (IsKept table.now i now.now label.now) (IsKept table.now i later.now label.now) (row_reads table.now i now.now label.now) (row_reads table.now i later.now label.now) (links_of (map plain_link links.now)) }
+    requires safe { SafeOperands (IsCached table.now i now.now label.now) (IsCached table.now i later.now label.now) (row_reads table.now i now.now label.now) (row_reads table.now i later.now label.now) (links_of (map plain_link links.now)) }
     ensures { plain_or result (seen_value first.now) ≡ implications (row_reads table.now i now.now label.now) (row_reads table.now i later.now label.now) (seen_value first.now) (links_of (map plain_link links.now)) }
 {
     match links.split_first() {
@@ -166,7 +166,7 @@ fn last_front<'a>(
     label: &Values<'a>,
     later: &Row<'a>,
 ) -> Option<Plain>
-    requires safe { KeptSafeLinks table.now i now.now later.now label.now (seen_value first.now) (links_of (map plain_link links.now)) }
+    requires safe { CachedSafeLinks table.now i now.now later.now label.now (seen_value first.now) (links_of (map plain_link links.now)) }
     ensures { plain_or result (seen_value first.now) ≡ fronts_value (row_reads table.now i now.now label.now) (row_reads table.now i later.now label.now) (seen_value first.now) (links_of (map plain_link links.now)) }
 {
     let mut front = None;
@@ -203,9 +203,9 @@ fn next_front<'a>(
     label: &Values<'a>,
     later: &Row<'a>,
 ) -> Plain
-    requires safe { KeptSafe table.now i now.now later.now label.now (plain operand.now) }
-    requires fits { Fits (front_value op (seen_value front.now) (kept_denote table.now i now.now later.now label.now (plain operand.now))) }
-    ensures { plain_value result ≡ front_value op (seen_value front.now) (kept_denote table.now i now.now later.now label.now (plain operand.now)) }
+    requires safe { CachedSafe table.now i now.now later.now label.now (plain operand.now) }
+    requires fits { Fits (front_value op (seen_value front.now) (cached_denote table.now i now.now later.now label.now (plain operand.now))) }
+    ensures { plain_value result ≡ front_value op (seen_value front.now) (cached_denote table.now i now.now later.now label.now (plain operand.now)) }
 {
     match op {
         Infix::Member => Plain::Truth(permits(table, i, operand, front, now, label, later)),
@@ -228,11 +228,11 @@ fn chosen_branch<'a>(
     label: &Values<'a>,
     later: &Row<'a>,
 ) -> &'a Expr
-    requires safe { KeptSafeBranches table.now i now.now later.now label.now (branches_of (map plain_branch branches.now)) }
-    requires safe_last { KeptSafe table.now i now.now later.now label.now (plain last.now) }
+    requires safe { CachedSafeBranches table.now i now.now later.now label.now (branches_of (map plain_branch branches.now)) }
+    requires safe_last { CachedSafe table.now i now.now later.now label.now (plain last.now) }
     ensures value { IsChosen table.now i now.now later.now label.now (branches_of (map plain_branch branches.now)) (plain last.now) (plain result.now) }
     ensures low { depth (plain result.now) ≤ max (branch_depth (branches_of (map plain_branch branches.now))) (depth (plain last.now)) }
-    ensures safe { KeptSafe table.now i now.now later.now label.now (plain result.now) }
+    ensures safe { CachedSafe table.now i now.now later.now label.now (plain result.now) }
 {
     let mut rest = branches;
     while let Some((branch, more)) = rest.split_first() {
@@ -255,10 +255,10 @@ fn taken_branch<'a>(
     label: &Values<'a>,
     later: &Row<'a>,
 ) -> Option<&'a Expr>
-    requires safe { KeptSafeBranches table.now i now.now later.now label.now (branches_of (map plain_branch branches.now)) }
-    ensures value { denoted_or_none (row_reads table.now i now.now label.now) (row_reads table.now i later.now label.now) result ≡ kept_taken table.now i now.now later.now label.now (branches_of (map plain_branch branches.now)) }
+    requires safe { CachedSafeBranches table.now i now.now later.now label.now (branches_of (map plain_branch branches.now)) }
+    ensures value { denoted_or_none (row_reads table.now i now.now label.now) (row_reads table.now i later.now label.now) result ≡ cached_taken table.now i now.now later.now label.now (branches_of (map plain_branch branches.now)) }
     ensures low { IfSome result (λ x. depth (plain x.now) ≤ branch_depth (branches_of (map plain_branch branches.now))) }
-    ensures safe { IfSome result (λ x. KeptSafe table.now i now.now later.now label.now (plain x.now)) }
+    ensures safe { IfSome result (λ x. CachedSafe table.now i now.now later.now label.now (plain x.now)) }
 {
     match branches.split_last() {
         None => None,
@@ -285,7 +285,7 @@ fn call_value<'a>(
     label: &Values<'a>,
     later: &Row<'a>,
 ) -> Plain
-    requires safe { SafeTrees (IsKept table.now i now.now label.now) (IsKept table.now i later.now label.now) (row_reads table.now i now.now label.now) (row_reads table.now i later.now label.now) (trees_of (map plain arguments.now)) }
+    requires safe { SafeTrees (IsCached table.now i now.now label.now) (IsCached table.now i later.now label.now) (row_reads table.now i now.now label.now) (row_reads table.now i later.now label.now) (trees_of (map plain arguments.now)) }
     requires fits { Fits (called f (values_of (row_reads table.now i now.now label.now) (row_reads table.now i later.now label.now) (trees_of (map plain arguments.now)))) }
     ensures { plain_value result ≡ called f (values_of (row_reads table.now i now.now label.now) (row_reads table.now i later.now label.now) (trees_of (map plain arguments.now))) }
 {
@@ -330,8 +330,8 @@ pub fn permits<'a>(
     label: &Values<'a>,
     later: &Row<'a>,
 ) -> bool
-    requires safe { KeptSafe table.now i now.now later.now label.now (plain e.now) }
-    ensures { result ≡ (kept_denote table.now i now.now later.now label.now (plain e.now)).permits (seen_value value.now) }
+    requires safe { CachedSafe table.now i now.now later.now label.now (plain e.now) }
+    ensures { result ≡ (cached_denote table.now i now.now later.now label.now (plain e.now)).permits (seen_value value.now) }
 {
     match &e.shape {
         Shape::Set(elements) => one_has(table, i, elements.as_slice(), value, now, label, later),
@@ -395,7 +395,7 @@ fn one_has<'a>(
     label: &Values<'a>,
     later: &Row<'a>,
 ) -> bool
-    requires safe { SafeTrees (IsKept table.now i now.now label.now) (IsKept table.now i later.now label.now) (row_reads table.now i now.now label.now) (row_reads table.now i later.now label.now) (trees_of (map plain elements.now)) }
+    requires safe { SafeTrees (IsCached table.now i now.now label.now) (IsCached table.now i later.now label.now) (row_reads table.now i now.now label.now) (row_reads table.now i later.now label.now) (trees_of (map plain elements.now)) }
     ensures { result ≡ one_permits (row_reads table.now i now.now label.now) (row_reads table.now i later.now label.now) (trees_of (map plain elements.now)) (seen_value value.now) }
 {
     let mut rest = elements;
@@ -421,7 +421,7 @@ fn last_has<'a>(
     label: &Values<'a>,
     later: &Row<'a>,
 ) -> bool
-    requires safe { KeptSafeLinks table.now i now.now later.now label.now (seen_value first.now) (links_of (map plain_link links.now)) }
+    requires safe { CachedSafeLinks table.now i now.now later.now label.now (seen_value first.now) (links_of (map plain_link links.now)) }
     ensures { result ≡ fronts_permit (row_reads table.now i now.now label.now) (row_reads table.now i later.now label.now) (seen_value value.now) (seen_value first.now) first_has (links_of (map plain_link links.now)) }
 {
     let mut front = None;

@@ -2,7 +2,7 @@
 ghost use Rattle.std.specs.Prelude.{◌≡◌, Some, true, map, IfOk, OnOk};
 ghost use Rattle.smv_meaning.specs.Names.{local};
 ghost use Rattle.smv_meaning.specs.Values.{given};
-ghost use Rattle.smv_evaluation.specs.Rows.{AreGiven, is_marked, IsOrdered, MarksClosed, MarkedSafe, LocalReady, KeepsLocal, KeepsMarked, MarkedKept};
+ghost use Rattle.smv_evaluation.specs.Rows.{AreGiven, is_marked, IsOrdered, MarksClosed, MarkedSafe, LocalReady, KeepsLocal, KeepsMarked, MarkedAreCached};
 ghost use Rattle.smv_instances.specs.View.{instance_plain};
 ghost use Rattle.smv_evaluation.specs.View.{stated};
 
@@ -72,7 +72,7 @@ fn keep_all<'a>(
     requires state { AreGiven row.old.state }
     requires label { AreGiven label.now }
     ensures state { OnOk result (row.new.state ≡ row.old.state) }
-    ensures kept { OnOk result (MarkedKept table.now reach.now.marks row.new label.now) }
+    ensures kept { OnOk result (MarkedAreCached table.now reach.now.marks row.new label.now) }
 {
     let bodies = reach.bodies.as_slice();
     for n in 0..reach.order.len() {
@@ -98,7 +98,7 @@ pub fn row_of<'a>(
     requires label { AreGiven label.now }
     ensures given { IfOk result (λ r. r.state.given ≡ Some state.entry) }
     ensures state { IfOk result (λ r. AreGiven r.state) }
-    ensures kept { IfOk result (λ r. MarkedKept table.now reach.now.marks r label.now) }
+    ensures kept { IfOk result (λ r. MarkedAreCached table.now reach.now.marks r label.now) }
 {
     let mut row = Row {
         state: values_of(alloc, Some(state))?,

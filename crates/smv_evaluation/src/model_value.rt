@@ -62,7 +62,7 @@ pub fn value_at<'a>(
     following: Option<&'a State>,
 ) -> Result<Value, NoMemory>
     requires checked { IsChecked (instances_of (plain_source source.now)) }
-    requires stands { StandsIn (instances_of (plain_source source.now)) (instance_number (instances_of (plain_source source.now)) instance.now) (plain expr.now) }
+    requires occurs { StandsIn (instances_of (plain_source source.now)) (instance_number (instances_of (plain_source source.now)) instance.now) (plain expr.now) }
     requires labelled { IsTrue (is_some label || not (reaches_an_input (instances_of (plain_source source.now)) (instance_number (instances_of (plain_source source.now)) instance.now) (plain expr.now))) }
     requires now_given { IsTrue (state_fits (instances_of (plain_source source.now)) (given now.now)) }
     requires label_given { IsTrue (label_given (instances_of (plain_source source.now)) label) }

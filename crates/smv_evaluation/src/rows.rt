@@ -5,7 +5,7 @@ ghost use Rattle.smv_meaning.specs.Names.{dotted_at};
 ghost use Rattle.smv_meaning.specs.Meaning.{is_input};
 ghost use Rattle.smv_meaning.specs.Instances.{dotted};
 ghost use Rattle.name_maps.specs.Maps.{named_in};
-ghost use Rattle.smv_evaluation.specs.Rows.{found_value, at_dotted, AreGiven, kept_value, row_reads, IsKept};
+ghost use Rattle.smv_evaluation.specs.Rows.{found_value, at_dotted, AreGiven, cached_value, row_reads, IsCached};
 ghost use Rattle.smv_instances.specs.View.{instance_plain};
 ghost use Rattle.smv_operators.specs.View.{seen_value};
 ghost use Rattle.smv_evaluation.specs.View.{stated};
@@ -21,7 +21,7 @@ use std::collections::HashMap;
 use text_core::NoMemory;
 
 /// Values, by the number of an instance and a name in it.
-pub type Kept<'a> = InstanceMap<'a, Seen<'a>>;
+pub type Cache<'a> = InstanceMap<'a, Seen<'a>>;
 
 /// Values, by the dotted names of variables.
 pub type Named<'a> = HashMap<Dotted<'a>, &'a Value>;
@@ -37,10 +37,10 @@ pub struct Values<'a> {
 #[derive(Drop)]
 pub struct Row<'a> {
     pub state: Values<'a>,
-    pub bodies: Kept<'a>,
+    pub bodies: Cache<'a>,
 }
 
-fn seen_under<'a>(kept: &Kept<'a>, i: usize, x: &[u8]) -> Option<Seen<'a>>
+fn seen_under<'a>(kept: &Cache<'a>, i: usize, x: &[u8]) -> Option<Seen<'a>>
     ensures { result ≡ named_in kept.now i x.now }
 {
     match kept.get(&(i, x)) {
@@ -136,7 +136,7 @@ fn value_of_kind<'a>(
 // ---- names
 
 fn value_of_body<'a>(row: &Row<'a>, i: usize, x: &[u8]) -> Seen<'a>
-    ensures { seen_value result ≡ kept_value (named_in row.now.bodies i x.now) }
+    ensures { seen_value result ≡ cached_value (named_in row.now.bodies i x.now) }
 {
     match seen_under(&row.bodies, i, x) {
         None => no_seen(),
@@ -153,7 +153,7 @@ pub fn value_of_path<'a>(
     row: &Row<'a>,
     label: &Values<'a>,
 ) -> Seen<'a>
-    requires { IsKept table.now i row.now label.now path.now }
+    requires { IsCached table.now i row.now label.now path.now }
     ensures { seen_value result ≡ row_reads table.now i row.now label.now path.now }
 {
     match table.target(i, path) {

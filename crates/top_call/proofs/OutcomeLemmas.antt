@@ -17,14 +17,14 @@ use Rattle.command_core.specs.Answers.{status_of, text_of, line_of}
 use Rattle.command_core.specs.Notes.{no_memory_line}
 use Rattle.top_call.specs.Outcome.{IsAbsent, IsCutLine, IsLineOf, MayAnswer, outcome_of}
 use Rattle.command_core.specs.Giving.{IsTold}
-use Rattle.top_call.specs.Words.{Answers, Serves}
-use Rattle.smv_commands.specs.Scripts.{ScriptsStand, moxi_text}
+use Rattle.top_call.specs.Words.{Answers, HasCorrectOutput}
+use Rattle.smv_commands.specs.Scripts.{ScriptsAreCorrect, moxi_text}
 use Rattle.command_core.specs.Sinks.{IsPart, Noted}
-use Rattle.smv_commands.specs.Translation.{Accepts, TranslatesTo, TranslationsStand, btor_text}
-use Rattle.btor_commands.specs.Importing.{ScriptsStand as ImportsStand, script_text}
+use Rattle.smv_commands.specs.Translation.{Accepts, TranslatesTo, TranslationsAreCorrect, btor_text}
+use Rattle.btor_commands.specs.Importing.{ScriptsAreCorrect as ImportsAreCorrect, script_text}
 use Rattle.btor_commands.proofs.Imported as imports
 use Rattle.btor_commands.proofs.Imported.{one_import}
-use Rattle.btor_commands.specs.Simplifying.{IsSmallerText, SmallerTextsStand}
+use Rattle.btor_commands.specs.Simplifying.{IsSmallerText, SmallerTextsAreCorrect}
 use Rattle.btor_commands.proofs.Smaller as smaller
 use Rattle.btor_commands.proofs.Smaller.{accepted_before, one_simplification}
 use Rattle.btor_commands.proofs.Judgements.{one_judgement}
@@ -40,7 +40,7 @@ use Rattle.smv_trace.specs.Texts.{trace_of}
 use Rattle.smv_commands.proofs.ScriptStands.{one_script}
 use Rattle.smv_commands.proofs.Given as scripts
 use Rattle.moxi_scripts.specs.Script.{PlainScript}
-use Rattle.moxi_commands.specs.Translation.{IsInstantiated, LinesStand, OfBytes as OfScriptBytes, btor_text as script_lines}
+use Rattle.moxi_commands.specs.Translation.{IsInstantiated, LinesAreCorrect, OfBytes as OfScriptBytes, btor_text as script_lines}
 use Rattle.moxi_commands.specs.Limits.{most_script_bytes}
 use Rattle.moxi_commands.specs.Scripts.{script_too_long}
 use Rattle.top_call.specs.Routes.{KeepsFrames, RoutesMeet}
@@ -270,7 +270,7 @@ no_fault (Done output) e = absurd (cc)
 
 pub run_cut : (files : Option Files) (command : Option Command) (rose : Type 0) (a : Answer) (before now : Option (List ℕ)) → MayAnswer files command rose a → status_of a ≢ status.Done → IsPart before now (line_of a) → IsCutLine files command rose before now
 run_cut files command rose a before now m d p =
-    record { ending = status_of a; notes = d; differs = no_fault a; line = line_of a; stands = line_stands files command rose a m; front = p }
+    record { ending = status_of a; notes = d; differs = no_fault a; line = line_of a; is_line = line_stands files command rose a m; front = p }
 
 pub run_fault_noted : (files : Option Files) (command : Option Command) (rose : Type 0) (a : Answer) (s : Status) (out notes untouched : Type 0) (before now : Option (List ℕ)) → MayAnswer files command rose a
     → (s ≡ status.WriteFault → out ⊎ (untouched × (status_of a ≢ status.Done) × IsPart before now (line_of a) × notes)) → s ≡ status.WriteFault → out ⊎ (notes × untouched × IsCutLine files command rose before now)
@@ -310,38 +310,38 @@ pub memory_fault_noted : {T : Type 0} (files : Option Files) (command : Option C
 memory_fault_noted files command rose out s taken before now count later n is =
     elim n [
       | inl whole ↦ absurd (let clash : status.WriteFault ≡ status.NoMemory = sym is ∙ whole.0 in cc)
-      | inr cut ↦ inr (cut.2, refl, record { ending = status.NoMemory; notes = λ e. absurd (cc); differs = λ e. absurd (cc); line = no_memory_line; stands = refl; front = cut.1 })
+      | inr cut ↦ inr (cut.2, refl, record { ending = status.NoMemory; notes = λ e. absurd (cc); differs = λ e. absurd (cc); line = no_memory_line; is_line = refl; front = cut.1 })
     ]
 
 -- what the laws say of the texts that are written
 pub record Laws : Type 0 where
-  pub texts : TranslationsStand
-  pub scripts : ScriptsStand
-  pub lines : LinesStand
-  pub imports : ImportsStand
-  pub smaller : SmallerTextsStand
+  pub texts : TranslationsAreCorrect
+  pub scripts : ScriptsAreCorrect
+  pub lines : LinesAreCorrect
+  pub imports : ImportsAreCorrect
+  pub smaller : SmallerTextsAreCorrect
   pub traces : RunsAreLifted
   pub witnesses : RunsAreLowered
   pub responses : TracesAreLifted
 
-served_by : (laws : Laws) (command : Option Command) (fs : Files) (b : Answer) (before now : Option (List ℕ)) → Answers command fs b → status_of b ≡ status.Done → now ≡ grown before (text_of b) → Serves command fs before now
-served_by laws None fs b before now h s w = let e : status.Usage ≡ status.Done = sym (ap status_of h) ∙ s in absurd (cc)
-served_by laws (Some (SmvToBtor model)) fs b before now h s w = translations.served laws.texts fs model b before now h s w
-served_by laws (Some (SmvToMoxi model)) fs b before now h s w = scripts.served laws.scripts fs model b before now h s w
-served_by laws (Some (MoxiToBtor model)) fs b before now h s w = lines.served laws.lines fs model b before now h s w
-served_by laws (Some (BtorToMoxi model)) fs b before now h s w = imports.served laws.imports fs model b before now h s w
-served_by laws (Some (Simplify model)) fs b before now h s w = smaller.served laws.smaller fs model b before now h s w
-served_by laws (Some (LiftSmv model second)) fs b before now h s w = traces.served laws.traces fs model second b before now h s w
-served_by laws (Some (LiftMoxi model second)) fs b before now h s w = responses.served laws.responses fs model second b before now h s w
-served_by laws (Some (Lower model second j)) fs b before now h s w = lowerings.served laws.witnesses fs model second j b before now h s w
-served_by laws (Some (Generate n)) fs b before now h s w = generated.summarized n b before now h s w
-served_by laws (Some command) fs b before now h s w = tt
+correct_output_by : (laws : Laws) (command : Option Command) (fs : Files) (b : Answer) (before now : Option (List ℕ)) → Answers command fs b → status_of b ≡ status.Done → now ≡ grown before (text_of b) → HasCorrectOutput command fs before now
+correct_output_by laws None fs b before now h s w = let e : status.Usage ≡ status.Done = sym (ap status_of h) ∙ s in absurd (cc)
+correct_output_by laws (Some (SmvToBtor model)) fs b before now h s w = translations.correct_output laws.texts fs model b before now h s w
+correct_output_by laws (Some (SmvToMoxi model)) fs b before now h s w = scripts.correct_output laws.scripts fs model b before now h s w
+correct_output_by laws (Some (MoxiToBtor model)) fs b before now h s w = lines.correct_output laws.lines fs model b before now h s w
+correct_output_by laws (Some (BtorToMoxi model)) fs b before now h s w = imports.correct_output laws.imports fs model b before now h s w
+correct_output_by laws (Some (Simplify model)) fs b before now h s w = smaller.correct_output laws.smaller fs model b before now h s w
+correct_output_by laws (Some (LiftSmv model second)) fs b before now h s w = traces.correct_output laws.traces fs model second b before now h s w
+correct_output_by laws (Some (LiftMoxi model second)) fs b before now h s w = responses.correct_output laws.responses fs model second b before now h s w
+correct_output_by laws (Some (Lower model second j)) fs b before now h s w = lowerings.correct_output laws.witnesses fs model second j b before now h s w
+correct_output_by laws (Some (Generate n)) fs b before now h s w = generated.summarized n b before now h s w
+correct_output_by laws (Some command) fs b before now h s w = tt
 
-pub run_served : (laws : Laws) (files : Option Files) (command : Option Command) (before now : Option (List ℕ)) → IfSome files (λ fs. (b : Answer) × Answers command fs b × (status_of b ≡ status.Done) × (now ≡ grown before (text_of b))) → IfSome files (λ fs. Serves command fs before now)
-run_served laws None command before now h = tt
-run_served laws (Some fs) command before now h = served_by laws command fs h.0 before now h.1 h.2 h.3
+pub run_correct_output : (laws : Laws) (files : Option Files) (command : Option Command) (before now : Option (List ℕ)) → IfSome files (λ fs. (b : Answer) × Answers command fs b × (status_of b ≡ status.Done) × (now ≡ grown before (text_of b))) → IfSome files (λ fs. HasCorrectOutput command fs before now)
+run_correct_output laws None command before now h = tt
+run_correct_output laws (Some fs) command before now h = correct_output_by laws command fs h.0 before now h.1 h.2 h.3
 
-pub run_translates : (once : OneGenerated) → (texts : TranslationsStand) (files : Option Files) (command : Option Command) (shelf out notes : Type 0) (a : Answer) (s : Status) (before now : Option (List ℕ)) → MayAnswer files command shelf a → Ends s a → (s ≢ status.WriteFault → now ≡ grown before (text_of a)) → (s ≡ status.WriteFault → out ⊎ notes)
+pub run_translates : (once : OneGenerated) → (texts : TranslationsAreCorrect) (files : Option Files) (command : Option Command) (shelf out notes : Type 0) (a : Answer) (s : Status) (before now : Option (List ℕ)) → MayAnswer files command shelf a → Ends s a → (s ≢ status.WriteFault → now ≡ grown before (text_of a)) → (s ≡ status.WriteFault → out ⊎ notes)
     → IfSome files (λ fs. (model bytes : List ℕ) (source : PlainSource) → command ≡ Some (SmvToBtor model) → file_at fs model ≡ Some bytes → Accepts bytes source → (shelf → ⊥) → (out → ⊥) → (notes → ⊥) → s ≢ status.NoMemory → (s ≡ status.Done) × ((text : List ℕ) × (now ≡ grown before text) × TranslatesTo source text))
 run_translates once texts None command shelf out notes a s before now m ends taken w = tt
 run_translates once texts (Some fs) command shelf out notes a s before now m ends taken w = λ model bytes source is there acc sh o n memory.
@@ -380,7 +380,7 @@ run_lowers once lowered (Some fs) command shelf out notes a s before now m ends 
     ]
 
 -- a witness for the smaller text of a model's text is lifted like one for the text itself
-pub run_lifts_smaller : (once : OneGenerated) → (lifted : RunsAreLifted) (stand : SmallerTextsStand) (files : Option Files) (command : Option Command) (shelf out notes : Type 0) (a : Answer) (s : Status) (before now : Option (List ℕ)) → MayAnswer files command shelf a → Ends s a → (s ≢ status.WriteFault → now ≡ grown before (text_of a)) → (s ≡ status.WriteFault → out ⊎ notes)
+pub run_lifts_smaller : (once : OneGenerated) → (lifted : RunsAreLifted) (stand : SmallerTextsAreCorrect) (files : Option Files) (command : Option Command) (shelf out notes : Type 0) (a : Answer) (s : Status) (before now : Option (List ℕ)) → MayAnswer files command shelf a → Ends s a → (s ≢ status.WriteFault → now ≡ grown before (text_of a)) → (s ≡ status.WriteFault → out ⊎ notes)
     → IfSome files (λ fs. (model second bytes shorter text : List ℕ) (source : PlainSource) (lines : List Line) (w : Witness) → command ≡ Some (LiftSmv model second) → file_at fs model ≡ Some bytes → Accepts bytes source → IsSmallerText (btor_text source) shorter → SpellsLines shorter lines
     → file_at fs second ≡ Some text → SpellsWitness lines text w → judged_btor lines w Yes → (shelf → ⊥) → (out → ⊥) → (notes → ⊥) → s ≢ status.NoMemory → (s ≡ status.Done) × ((trace : List ℕ) × (now ≡ grown before trace) × LiftsBack source w trace))
 run_lifts_smaller once lifted stand None command shelf out notes a s before now m ends taken w = tt
@@ -389,7 +389,7 @@ run_lifts_smaller once lifted stand (Some fs) command shelf out notes a s before
     run_lifts once lifted (Some fs) command shelf out notes a s before now m ends taken w model second bytes text source own.0 v is there acc own.1 second_there own.2 own.3 sh o n memory
 
 -- and so is one for the smaller text of a script's text
-pub run_responds : (once : OneGenerated) → (lifted : TracesAreLifted) (stand : SmallerTextsStand) (files : Option Files) (command : Option Command) (shelf out notes : Type 0) (a : Answer) (s : Status) (before now : Option (List ℕ)) → MayAnswer files command shelf a → Ends s a → (s ≢ status.WriteFault → now ≡ grown before (text_of a)) → (s ≡ status.WriteFault → out ⊎ notes)
+pub run_responds : (once : OneGenerated) → (lifted : TracesAreLifted) (stand : SmallerTextsAreCorrect) (files : Option Files) (command : Option Command) (shelf out notes : Type 0) (a : Answer) (s : Status) (before now : Option (List ℕ)) → MayAnswer files command shelf a → Ends s a → (s ≢ status.WriteFault → now ≡ grown before (text_of a)) → (s ≡ status.WriteFault → out ⊎ notes)
     → IfSome files (λ fs. (model second bytes shorter text : List ℕ) (script : PlainScript) (lines : List Line) (w : Witness) → command ≡ Some (LiftMoxi model second) → file_at fs model ≡ Some bytes → IsInstantiated bytes script → IsSmallerText (script_lines script) shorter → SpellsLines shorter lines
     → file_at fs second ≡ Some text → SpellsWitness lines text w → judged_btor lines w Yes → (shelf → ⊥) → (out → ⊥) → (notes → ⊥) → s ≢ status.NoMemory → (s ≡ status.Done) × ((response : List ℕ) × (now ≡ grown before response) × RespondsBack script w response))
 run_responds once lifted stand None command shelf out notes a s before now m ends taken w = tt
@@ -417,7 +417,7 @@ run_routes once meet (Some fs) command shelf out notes a s before now m ends tak
       | inr f ↦ absurd (whole f)
     ]
 
-pub run_returns : (once : OneGenerated) → (made : ImportsStand) → (stand : LinesStand) (files : Option Files) (command : Option Command) (shelf out notes : Type 0) (a : Answer) (s : Status) (before now : Option (List ℕ)) → MayAnswer files command shelf a → Ends s a → (s ≢ status.WriteFault → now ≡ grown before (text_of a)) → (s ≡ status.WriteFault → out ⊎ notes)
+pub run_returns : (once : OneGenerated) → (made : ImportsAreCorrect) → (stand : LinesAreCorrect) (files : Option Files) (command : Option Command) (shelf out notes : Type 0) (a : Answer) (s : Status) (before now : Option (List ℕ)) → MayAnswer files command shelf a → Ends s a → (s ≢ status.WriteFault → now ≡ grown before (text_of a)) → (s ≡ status.WriteFault → out ⊎ notes)
     → IfSome files (λ fs. (model bytes : List ℕ) (lines : List Line) (script : PlainScript) → command ≡ Some (MoxiToBtor model) → SpellsLines bytes lines → file_at fs model ≡ Some (script_text lines) → IsInstantiated (script_text lines) script → (shelf → ⊥) → (out → ⊥) → (notes → ⊥) → s ≢ status.NoMemory
     → (s ≡ status.Done) × ((text : List ℕ) × (now ≡ grown before text) × KeepsFrames lines text))
 run_returns once made stand None command shelf out notes a s before now m ends taken w = tt

@@ -51,5 +51,5 @@ pub record IsCutLine (files : Option Files) (command : Option Command) (rose : T
   pub notes : ending ≢ status.Done
   pub differs : ending ≢ status.WriteFault
   pub line : List ℕ
-  pub stands : IsLineOf files command rose ending line
+  pub is_line : IsLineOf files command rose ending line
   pub front : IsPart before now line

@@ -13,14 +13,14 @@ use Rattle.top_call.specs.declared.words.Task.{Task}
 use Rattle.top_call.specs.declared.words.Task.TheVariants as task
 use Rattle.top_call.specs.declared.words.Command.{Command}
 use Rattle.top_call.specs.declared.words.Command.TheVariants.{SmvToBtor, SmvToMoxi, MoxiToBtor, BtorToMoxi, Simplify, JudgeBtor, JudgeSmv, JudgeMoxi, LiftSmv, LiftMoxi, Lower, Generate}
-use Rattle.smv_commands.specs.Translation.{IsServed, IsTranslation}
-use Rattle.btor_commands.specs.Importing.{IsImport, IsServed as IsServedImport}
-use Rattle.btor_commands.specs.Simplifying.{IsSimplification, IsServed as IsServedSmaller}
+use Rattle.smv_commands.specs.Translation.{IsCorrectOutput, IsTranslation}
+use Rattle.btor_commands.specs.Importing.{IsImport, IsCorrectOutput as IsCorrectImport}
+use Rattle.btor_commands.specs.Simplifying.{IsSimplification, IsCorrectOutput as IsCorrectSmaller}
 use Rattle.btor_commands.specs.Judgement.{IsJudgement}
 use Rattle.smv_commands.specs.SmvJudgement.{IsSmvJudgement}
-use Rattle.smv_commands.specs.Scripts.{IsScript, IsServed as IsServedScript}
+use Rattle.smv_commands.specs.Scripts.{IsScript, IsCorrectOutput as IsCorrectScript}
 use Rattle.moxi_commands.specs.Judgement.{IsMoxiJudgement}
-use Rattle.moxi_commands.specs.Translation.{IsBtorText, IsServed as IsServedLines}
+use Rattle.moxi_commands.specs.Translation.{IsBtorText, IsCorrectOutput as IsCorrectLines}
 use Rattle.smv_commands.specs.SmvLift.{IsLiftedTrace, IsSmvLift}
 use Rattle.smv_commands.specs.Lowering.{IsLoweredTrace, IsLowering}
 use Rattle.moxi_commands.specs.MoxiLift.{IsLiftedResponse, IsMoxiLift}
@@ -122,18 +122,18 @@ Answers (Some (Lower model second j)) files answer = IsLowering files model seco
 Answers (Some (Generate n)) files answer = IsGenerated n answer
 
 -- the text written for a command is a correct translation, lift or lowering of its files; for a verdict nothing is required
-abbrev pub Serves : Option Command → Files → Option (List ℕ) → Option (List ℕ) → Type 0
-Serves None files before now = ⊥
-Serves (Some (SmvToBtor model)) files before now = IsServed files model before now
-Serves (Some (SmvToMoxi model)) files before now = IsServedScript files model before now
-Serves (Some (MoxiToBtor model)) files before now = IsServedLines files model before now
-Serves (Some (BtorToMoxi model)) files before now = IsServedImport files model before now
-Serves (Some (Simplify model)) files before now = IsServedSmaller files model before now
-Serves (Some (LiftSmv model second)) files before now = IsLiftedTrace files model second before now
-Serves (Some (LiftMoxi model second)) files before now = IsLiftedResponse files model second before now
-Serves (Some (Lower model second j)) files before now = IsLoweredTrace files model second j before now
-Serves (Some (Generate n)) files before now = IsSummarized n before now
-Serves (Some command) files before now = Unit {0}
+abbrev pub HasCorrectOutput : Option Command → Files → Option (List ℕ) → Option (List ℕ) → Type 0
+HasCorrectOutput None files before now = ⊥
+HasCorrectOutput (Some (SmvToBtor model)) files before now = IsCorrectOutput files model before now
+HasCorrectOutput (Some (SmvToMoxi model)) files before now = IsCorrectScript files model before now
+HasCorrectOutput (Some (MoxiToBtor model)) files before now = IsCorrectLines files model before now
+HasCorrectOutput (Some (BtorToMoxi model)) files before now = IsCorrectImport files model before now
+HasCorrectOutput (Some (Simplify model)) files before now = IsCorrectSmaller files model before now
+HasCorrectOutput (Some (LiftSmv model second)) files before now = IsLiftedTrace files model second before now
+HasCorrectOutput (Some (LiftMoxi model second)) files before now = IsLiftedResponse files model second before now
+HasCorrectOutput (Some (Lower model second j)) files before now = IsLoweredTrace files model second j before now
+HasCorrectOutput (Some (Generate n)) files before now = IsSummarized n before now
+HasCorrectOutput (Some command) files before now = Unit {0}
 
 -- `judge-btor` opened no second file; other commands may run out of memory on theirs
 abbrev pub BeginsNoSecond : Option Files → Option (List ℕ) → Option (List ℕ) → Option Command → Type 0

@@ -34,15 +34,17 @@ ghost use Rattle.trace_lower.specs.Lowered.{verdict_on};
 ghost use Rattle.smv_meaning.specs.declared.value.Run.{Run};
 ghost use Rattle.smv_trace.specs.Texts.{trace_of};
 ghost use Rattle.generate.specs.Generating.{IsGenerated};
-ghost use Rattle.top_call.specs.Words.{BeginsNoSecond, IsInRange, Serves, command_of};
+ghost use Rattle.top_call.specs.Words.{BeginsNoSecond, IsInRange, HasCorrectOutput, command_of};
 
 use crate::routes::routes_meet;
 use crate::words::{Command, answer_command, read_command};
-use btor_commands::{imports_stand, smaller_texts_stand};
+use btor_commands::{imports_are_correct, smaller_texts_are_correct};
 use command_core::{Answer, Status, Stop, deliver, note};
 use generate::one_generated;
-use moxi_commands::{lines_stand, traces_are_lifted};
-use smv_commands::{runs_are_lifted, runs_are_lowered, scripts_stand, translations_stand};
+use moxi_commands::{lines_are_correct, traces_are_lifted};
+use smv_commands::{
+    runs_are_lifted, runs_are_lowered, scripts_are_correct, translations_are_correct,
+};
 use std::alloc::Global;
 use text_core::{NoMemory, Shelf, Sink};
 
@@ -133,7 +135,7 @@ pub fn run<F: Shelf, K: Sink, N: Sink>(
         × (K.taken out.new ≡ grown (K.taken out.old) (text_of answer)) × (N.taken notes.new ≡ grown (N.taken notes.old) (line_of answer)))) }
 
     // Each text that was written as a whole has the properties that its command promises.
-    ensures served { result ≡ Status.Done → IfSome (F.files shelf.old) (λ files. Serves (command_of (map string_bytes words.now.items)) files (K.taken out.old) (K.taken out.new)) }
+    ensures correct_output { result ≡ Status.Done → IfSome (F.files shelf.old) (λ files. HasCorrectOutput (command_of (map string_bytes words.now.items)) files (K.taken out.old) (K.taken out.new)) }
 
     // The whole defined text was written.
     ensures done { result ≡ Status.Done → IfSome (F.files shelf.old) (λ files. (answer : Answer)
@@ -197,15 +199,15 @@ pub fn run<F: Shelf, K: Sink, N: Sink>(
     ensures begun { BeginsFor (F.files shelf.old) (F.begun shelf.old) (F.begun shelf.new) (command_of (map string_bytes words.now.items)) }
     ensures files { F.files shelf.new ≡ F.files shelf.old }
 {
-    translations_stand();
-    scripts_stand();
-    lines_stand();
+    translations_are_correct();
+    scripts_are_correct();
+    lines_are_correct();
     runs_are_lifted();
     runs_are_lowered();
     traces_are_lifted();
     routes_meet();
-    imports_stand();
-    smaller_texts_stand();
+    imports_are_correct();
+    smaller_texts_are_correct();
     one_generated();
     match answer_words(alloc, words, shelf) {
         Ok(answer) => deliver(&answer, out, notes),

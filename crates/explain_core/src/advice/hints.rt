@@ -144,7 +144,7 @@ const SCRIPT_WORDS: [(&[u8], &[u8]); 12] = [
 ///
 /// Returns None where only the general fix of the kind applies.
 pub fn hint_for(kind: Kind, token: &[u8]) -> Option<&'static [u8]>
-    ensures { option_map (λ mend. mend.now) result ≡ hint_for kind token.now }
+    ensures { option_map (λ remedy. remedy.now) result ≡ hint_for kind token.now }
 {
     if is_kind(kind, smv::NOT_SUPPORTED) {
         if is_among(&TEMPORAL, token) {
@@ -177,11 +177,11 @@ pub fn is_among(words: &[&'static [u8]], token: &[u8]) -> bool
 
 // The fix listed for a word.
 fn hint_in(hints: &[(&'static [u8], &'static [u8])], token: &[u8]) -> Option<&'static [u8]>
-    ensures { option_map (λ mend. mend.now) result ≡ hint_in (map plain_advice hints.now) token.now }
+    ensures { option_map (λ remedy. remedy.now) result ≡ hint_in (map plain_advice hints.now) token.now }
 {
-    for (word, mend) in hints {
+    for (word, remedy) in hints {
         if is_same(word, token) {
-            return Some(*mend);
+            return Some(*remedy);
         }
     }
     None

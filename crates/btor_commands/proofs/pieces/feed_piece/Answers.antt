@@ -5,5 +5,5 @@ use Rattle.btor_commands.proofs.pieces.feed_piece.Goals as goal
 
 pub returns-clause-front : goal.returns-clause-front
 returns-clause-front g c = λ told h.
-    holds_more told _ _ _ _ _ _ (take c.in-Ok.n c.read.new.buffer) h (c.feed.ensures.stands h.text c.requires.going h.stands) c.in-Ok.ensures.bytes _
+    holds_more told _ _ _ _ _ _ (take c.in-Ok.n c.read.new.buffer) h (c.feed.ensures.represents h.text c.requires.going h.represents) c.in-Ok.ensures.bytes _
     (length-take-le c.in-Ok.n c.read.new.buffer (omega (arith, c.in-Ok.ensures.count, c.read.auto.buffer)))

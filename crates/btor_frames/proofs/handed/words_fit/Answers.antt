@@ -21,7 +21,7 @@ loop-i-preserved c =
     record {
       input_is = omega (arith, c.with_input-input.ensures, inv.input_is, count_step is_input c.args.nodes.now c.loop-i.i c.at.result.now c.at.ensures);
       state_is = omega (arith, c.with_state-state.ensures, inv.state_is, count_step is_state c.args.nodes.now c.loop-i.i c.at-in-loop-i.result.now c.at-in-loop-i.ensures);
-      fits = fits_more c.args.nodes.now c.args.inputs.now c.args.free.now c.loop-i.i c.handed_word-handed.result c.handed_word-handed.ensures (c.line_fits.ensures.0 (search rules)) inv.fits;
+      fits = fits_more c.args.nodes.now c.args.inputs.now c.args.free.now c.loop-i.i c.supplied_word-handed.result c.supplied_word-handed.ensures (c.line_fits.ensures.0 (search rules)) inv.fits;
     }
 
 pub returns-then-len-input : goal.returns-then-len-input

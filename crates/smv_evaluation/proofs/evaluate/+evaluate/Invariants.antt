@@ -4,7 +4,7 @@ use Rattle.smv_text.specs.View.{plain, plain_branch, plain_link}
 use Rattle.smv_meaning.specs.Expressions.{denote, chosen, values_of, one_permits}
 use Rattle.smv_meaning.specs.Operators.{trues}
 use Rattle.smv_meaning.specs.Safety.{depth, right_depth, link_depth, branch_depth, tree_depth, fronts_value, fronts_permit, SafeLinks, SafeBranches, SafeTrees}
-use Rattle.smv_evaluation.specs.Rows.{row_reads, IsKept}
+use Rattle.smv_evaluation.specs.Rows.{row_reads, IsCached}
 use Rattle.smv_operators.specs.View.{seen_value, plain_or}
 use Rattle.smv_evaluation.proofs.evaluate.+evaluate.Given as goal
 
@@ -41,7 +41,7 @@ decreases-one_has l = 8 * tree_depth (trees_of (map plain l.elements.now)) + 3
 abbrev pub invariant-last_front-loop-link : goal.invariant-last_front-loop-link
 invariant-last_front-loop-link l = record {
   low : link_depth (links_of (map plain_link l.rest)) ≤ link_depth (links_of (map plain_link l.fn.links));
-  safe : SafeLinks (IsKept l.table l.i l.now l.label) (IsKept l.table l.i l.later l.label) (row_reads l.table l.i l.now l.label) (row_reads l.table l.i l.later l.label) (plain_or l.front (seen_value l.first)) (links_of (map plain_link l.rest));
+  safe : SafeLinks (IsCached l.table l.i l.now l.label) (IsCached l.table l.i l.later l.label) (row_reads l.table l.i l.now l.label) (row_reads l.table l.i l.later l.label) (plain_or l.front (seen_value l.first)) (links_of (map plain_link l.rest));
   same : fronts_value (row_reads l.table l.i l.now l.label) (row_reads l.table l.i l.later l.label) (plain_or l.front (seen_value l.first)) (links_of (map plain_link l.rest)) ≡ fronts_value (row_reads l.table l.i l.now l.label) (row_reads l.table l.i l.later l.label) (seen_value l.first) (links_of (map plain_link l.fn.links));
 }
 
@@ -51,7 +51,7 @@ decreases-last_front-loop-link l = length l.rest
 abbrev pub invariant-last_has-loop-link : goal.invariant-last_has-loop-link
 invariant-last_has-loop-link l = record {
   low : link_depth (links_of (map plain_link l.rest)) ≤ link_depth (links_of (map plain_link l.fn.links));
-  safe : SafeLinks (IsKept l.table l.i l.now l.label) (IsKept l.table l.i l.later l.label) (row_reads l.table l.i l.now l.label) (row_reads l.table l.i l.later l.label) (plain_or l.front (seen_value l.first)) (links_of (map plain_link l.rest));
+  safe : SafeLinks (IsCached l.table l.i l.now l.label) (IsCached l.table l.i l.later l.label) (row_reads l.table l.i l.now l.label) (row_reads l.table l.i l.later l.label) (plain_or l.front (seen_value l.first)) (links_of (map plain_link l.rest));
   same : fronts_permit (row_reads l.table l.i l.now l.label) (row_reads l.table l.i l.later l.label) (seen_value l.value) (plain_or l.front (seen_value l.first)) l.has (links_of (map plain_link l.rest)) ≡ fronts_permit (row_reads l.table l.i l.now l.label) (row_reads l.table l.i l.later l.label) (seen_value l.value) (seen_value l.first) l.fn.first_has (links_of (map plain_link l.fn.links));
 }
 
@@ -61,7 +61,7 @@ decreases-last_has-loop-link l = length l.rest
 abbrev pub invariant-chosen_branch-loop-branch : goal.invariant-chosen_branch-loop-branch
 invariant-chosen_branch-loop-branch l = record {
   low : branch_depth (branches_of (map plain_branch l.rest)) ≤ branch_depth (branches_of (map plain_branch l.fn.branches));
-  safe : SafeBranches (IsKept l.table l.i l.now l.label) (IsKept l.table l.i l.later l.label) (row_reads l.table l.i l.now l.label) (row_reads l.table l.i l.later l.label) (branches_of (map plain_branch l.rest));
+  safe : SafeBranches (IsCached l.table l.i l.now l.label) (IsCached l.table l.i l.later l.label) (row_reads l.table l.i l.now l.label) (row_reads l.table l.i l.later l.label) (branches_of (map plain_branch l.rest));
   same : chosen (row_reads l.table l.i l.now l.label) (row_reads l.table l.i l.later l.label) (branches_of (map plain_branch l.rest)) (denote (row_reads l.table l.i l.now l.label) (row_reads l.table l.i l.later l.label) (plain l.last)) ≡ chosen (row_reads l.table l.i l.now l.label) (row_reads l.table l.i l.later l.label) (branches_of (map plain_branch l.fn.branches)) (denote (row_reads l.table l.i l.now l.label) (row_reads l.table l.i l.later l.label) (plain l.last));
 }
 
@@ -71,7 +71,7 @@ decreases-chosen_branch-loop-branch l = length l.rest
 abbrev pub invariant-call_value-loop-first : goal.invariant-call_value-loop-first
 invariant-call_value-loop-first l = record {
   low : tree_depth (trees_of (map plain l.rest)) ≤ tree_depth (trees_of (map plain l.arguments));
-  safe : SafeTrees (IsKept l.table l.i l.now l.label) (IsKept l.table l.i l.later l.label) (row_reads l.table l.i l.now l.label) (row_reads l.table l.i l.later l.label) (trees_of (map plain l.rest));
+  safe : SafeTrees (IsCached l.table l.i l.now l.label) (IsCached l.table l.i l.later l.label) (row_reads l.table l.i l.now l.label) (row_reads l.table l.i l.later l.label) (trees_of (map plain l.rest));
   same : l.count +ℤ pos (trues (values_of (row_reads l.table l.i l.now l.label) (row_reads l.table l.i l.later l.label) (trees_of (map plain l.rest)))) ≡ pos (trues (values_of (row_reads l.table l.i l.now l.label) (row_reads l.table l.i l.later l.label) (trees_of (map plain l.arguments))));
 }
 
@@ -81,7 +81,7 @@ decreases-call_value-loop-first l = length l.rest
 abbrev pub invariant-one_has-loop-first : goal.invariant-one_has-loop-first
 invariant-one_has-loop-first l = record {
   low : tree_depth (trees_of (map plain l.rest)) ≤ tree_depth (trees_of (map plain l.fn.elements));
-  safe : SafeTrees (IsKept l.table l.i l.now l.label) (IsKept l.table l.i l.later l.label) (row_reads l.table l.i l.now l.label) (row_reads l.table l.i l.later l.label) (trees_of (map plain l.rest));
+  safe : SafeTrees (IsCached l.table l.i l.now l.label) (IsCached l.table l.i l.later l.label) (row_reads l.table l.i l.now l.label) (row_reads l.table l.i l.later l.label) (trees_of (map plain l.rest));
   same : one_permits (row_reads l.table l.i l.now l.label) (row_reads l.table l.i l.later l.label) (trees_of (map plain l.rest)) (seen_value l.value) ≡ one_permits (row_reads l.table l.i l.now l.label) (row_reads l.table l.i l.later l.label) (trees_of (map plain l.fn.elements)) (seen_value l.value);
 }
 

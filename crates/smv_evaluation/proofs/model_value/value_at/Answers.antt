@@ -26,7 +26,7 @@ reach_of-requires c =
     let state = given c.args.now.now in
     let asked : Asked (map instance_plain ts) c.number_of-i.result e state c.args.label c.args.following =
     asked_at ts t c.number_of-i.result k e state c.args.label c.args.following et ei
-    (record { checked = c.requires.checked; words = words; stands = c.requires.stands; reach = c.requires.labelled; now_fits = c.requires.now_given; label_fits = c.requires.label_given; next_fits = c.requires.following_given }) in
+    (record { checked = c.requires.checked; words = words; occurs = c.requires.occurs; reach = c.requires.labelled; now_fits = c.requires.now_given; label_fits = c.requires.label_given; next_fits = c.requires.following_given }) in
     acyclic_passes (map instance_plain ts) (acyclic (map instance_plain ts) asked.checked)
 
 pub row_of-requires-clause-safe : goal.row_of-requires-clause-safe
@@ -42,7 +42,7 @@ row_of-requires-clause-safe c =
     let state = given c.args.now.now in
     let asked : Asked (map instance_plain ts) c.number_of-i.result e state c.args.label c.args.following =
     asked_at ts t c.number_of-i.result k e state c.args.label c.args.following et ei
-    (record { checked = c.requires.checked; words = words; stands = c.requires.stands; reach = c.requires.labelled; now_fits = c.requires.now_given; label_fits = c.requires.label_given; next_fits = c.requires.following_given }) in
+    (record { checked = c.requires.checked; words = words; occurs = c.requires.occurs; reach = c.requires.labelled; now_fits = c.requires.now_given; label_fits = c.requires.label_given; next_fits = c.requires.following_given }) in
     subst (λ (o : States). MarkedSafe (map instance_plain ts) c.in_ok-reach.reach.marks state (stated o)) (sym c.in_ok-label.ensures.given)
     (marked_safe (map instance_plain ts) c.number_of-i.result e state c.args.label c.args.following asked c.in_ok-reach.reach.marks c.in_ok-reach.ensures.least state
     (gives_now (map instance_plain ts) c.number_of-i.result e state c.args.label c.args.following asked))
@@ -60,7 +60,7 @@ evaluate-requires c =
     let state = given c.args.now.now in
     let asked : Asked (map instance_plain ts) c.number_of-i.result e state c.args.label c.args.following =
     asked_at ts t c.number_of-i.result k e state c.args.label c.args.following et ei
-    (record { checked = c.requires.checked; words = words; stands = c.requires.stands; reach = c.requires.labelled; now_fits = c.requires.now_given; label_fits = c.requires.label_given; next_fits = c.requires.following_given }) in
+    (record { checked = c.requires.checked; words = words; occurs = c.requires.occurs; reach = c.requires.labelled; now_fits = c.requires.now_given; label_fits = c.requires.label_given; next_fits = c.requires.following_given }) in
     let here : IsRow ts c.in_ok-reach.reach.marks c.in_ok-here.here c.in_ok-label.label state = record { state = ap stated c.in_ok-here.ensures.given; right = c.in_ok-here.ensures.state; kept = c.in_ok-here.ensures.kept } in
     let again : IsRow ts c.in_ok-reach.reach.marks c.in_ok-here.here c.in_ok-label.label (following_or state c.args.following) =
     record { state = ap stated c.in_ok-here.ensures.given ∙ sym (ap (following_or state) c.in-None.is); right = c.in_ok-here.ensures.state; kept = c.in_ok-here.ensures.kept } in
@@ -82,7 +82,7 @@ returns-in-None c =
     let state = given c.args.now.now in
     let asked : Asked (map instance_plain ts) c.number_of-i.result e state c.args.label c.args.following =
     asked_at ts t c.number_of-i.result k e state c.args.label c.args.following et ei
-    (record { checked = c.requires.checked; words = words; stands = c.requires.stands; reach = c.requires.labelled; now_fits = c.requires.now_given; label_fits = c.requires.label_given; next_fits = c.requires.following_given }) in
+    (record { checked = c.requires.checked; words = words; occurs = c.requires.occurs; reach = c.requires.labelled; now_fits = c.requires.now_given; label_fits = c.requires.label_given; next_fits = c.requires.following_given }) in
     other_value c.into_value.result _ _
     (c.evaluate.ensures
     ∙ value_is ts (plain_source c.args.source.now) c.number_of-i.result k e state (following_or state c.args.following) c.args.label c.in_ok-here.here c.in_ok-here.here c.in_ok-label.label et ei asked.checked
@@ -102,7 +102,7 @@ row_of-requires-in-Some-clause-safe c =
     let state = given c.args.now.now in
     let asked : Asked (map instance_plain ts) c.number_of-i.result e state c.args.label c.args.following =
     asked_at ts t c.number_of-i.result k e state c.args.label c.args.following et ei
-    (record { checked = c.requires.checked; words = words; stands = c.requires.stands; reach = c.requires.labelled; now_fits = c.requires.now_given; label_fits = c.requires.label_given; next_fits = c.requires.following_given }) in
+    (record { checked = c.requires.checked; words = words; occurs = c.requires.occurs; reach = c.requires.labelled; now_fits = c.requires.now_given; label_fits = c.requires.label_given; next_fits = c.requires.following_given }) in
     subst (λ (v : Valuation). MarkedSafe (map instance_plain ts) c.in_ok-reach.reach.marks v (stated c.in_ok-label.label.given)) (ap (following_or state) c.in-Some.is)
     (subst (λ (o : States). MarkedSafe (map instance_plain ts) c.in_ok-reach.reach.marks (following_or state c.args.following) (stated o)) (sym c.in_ok-label.ensures.given)
     (marked_safe (map instance_plain ts) c.number_of-i.result e state c.args.label c.args.following asked c.in_ok-reach.reach.marks c.in_ok-reach.ensures.least (following_or state c.args.following)
@@ -121,7 +121,7 @@ evaluate-requires-in-Some c =
     let state = given c.args.now.now in
     let asked : Asked (map instance_plain ts) c.number_of-i.result e state c.args.label c.args.following =
     asked_at ts t c.number_of-i.result k e state c.args.label c.args.following et ei
-    (record { checked = c.requires.checked; words = words; stands = c.requires.stands; reach = c.requires.labelled; now_fits = c.requires.now_given; label_fits = c.requires.label_given; next_fits = c.requires.following_given }) in
+    (record { checked = c.requires.checked; words = words; occurs = c.requires.occurs; reach = c.requires.labelled; now_fits = c.requires.now_given; label_fits = c.requires.label_given; next_fits = c.requires.following_given }) in
     let here : IsRow ts c.in_ok-reach.reach.marks c.in_ok-here.here c.in_ok-label.label state = record { state = ap stated c.in_ok-here.ensures.given; right = c.in_ok-here.ensures.state; kept = c.in_ok-here.ensures.kept } in
     let there : IsRow ts c.in_ok-reach.reach.marks c.in_ok-there-in-Some.there c.in_ok-label.label (following_or state c.args.following) =
     record { state = ap stated c.in_ok-there-in-Some.ensures.given ∙ sym (ap (following_or state) c.in-Some.is); right = c.in_ok-there-in-Some.ensures.state; kept = c.in_ok-there-in-Some.ensures.kept } in
@@ -143,7 +143,7 @@ returns c =
     let state = given c.args.now.now in
     let asked : Asked (map instance_plain ts) c.number_of-i.result e state c.args.label c.args.following =
     asked_at ts t c.number_of-i.result k e state c.args.label c.args.following et ei
-    (record { checked = c.requires.checked; words = words; stands = c.requires.stands; reach = c.requires.labelled; now_fits = c.requires.now_given; label_fits = c.requires.label_given; next_fits = c.requires.following_given }) in
+    (record { checked = c.requires.checked; words = words; occurs = c.requires.occurs; reach = c.requires.labelled; now_fits = c.requires.now_given; label_fits = c.requires.label_given; next_fits = c.requires.following_given }) in
     other_value c.into_value-in-Some.result _ _
     (c.evaluate-in-Some.ensures
     ∙ value_is ts (plain_source c.args.source.now) c.number_of-i.result k e state (following_or state c.args.following) c.args.label c.in_ok-here.here c.in_ok-there-in-Some.there c.in_ok-label.label et ei asked.checked

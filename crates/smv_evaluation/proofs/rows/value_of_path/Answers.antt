@@ -1,5 +1,5 @@
 use Rattle.std.proofs.Common.{◌∙◌, sym, subst}
-use Rattle.smv_evaluation.specs.Rows.{FoundKept}
+use Rattle.smv_evaluation.specs.Rows.{FoundIsCached}
 use Rattle.smv_evaluation.proofs.RowReads.{read_found, is_kept}
 use Rattle.smv_evaluation.proofs.rows.value_of_path.Goals as goal
 
@@ -13,7 +13,7 @@ pub returns-in-Body : goal.returns-in-Body
 returns-in-Body c =
     let h = is_kept c.args.table.now c.args.i c.args.row.now c.args.label.now c.args.path.now c.requires in
     c.value_of_body.ensures
-    ∙ subst (FoundKept c.args.table.now c.args.row.now c.args.label.now) (sym c.in-Body.ensures) h.2
+    ∙ subst (FoundIsCached c.args.table.now c.args.row.now c.args.label.now) (sym c.in-Body.ensures) h.2
     ∙ read_found c.args.table.now c.args.i c.args.row.now c.args.label.now c.args.path.now _ c.in-Body.ensures
 
 pub returns-in-Instance : goal.returns-in-Instance

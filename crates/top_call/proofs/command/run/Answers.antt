@@ -1,5 +1,5 @@
 use Rattle.std.proofs.Common.{Global, map, string_bytes}
-use Rattle.top_call.proofs.OutcomeLemmas.{run_done, run_served, run_translates, run_lifts, run_lowers, run_lifts_smaller, run_responds, run_routes, run_returns, run_generated, no_memory_generated, run_no_text, run_prefix, run_complete, run_refused, run_second_refused, run_no, run_usage, run_no_command, run_read_fault, run_absent, run_noted, run_silent, run_fault_noted, run_untouched, run_write_fault, run_memory, memory_fault_noted, none_put}
+use Rattle.top_call.proofs.OutcomeLemmas.{run_done, run_correct_output, run_translates, run_lifts, run_lowers, run_lifts_smaller, run_responds, run_routes, run_returns, run_generated, no_memory_generated, run_no_text, run_prefix, run_complete, run_refused, run_second_refused, run_no, run_usage, run_no_command, run_read_fault, run_absent, run_noted, run_silent, run_fault_noted, run_untouched, run_write_fault, run_memory, memory_fault_noted, none_put}
 use Rattle.top_call.proofs.command.run.Goals as goal
 
 pub returns-in-Ok-clause-done : goal.returns-in-Ok-clause-done
@@ -47,11 +47,11 @@ returns-in-Ok-clause-prefix g c = λ fault. run_prefix c.one_generated.ensures _
 pub returns-in-Ok-clause-complete : goal.returns-in-Ok-clause-complete
 returns-in-Ok-clause-complete g c = run_complete c.one_generated.ensures _ _ _ _ _ c.in-Ok.answer c.deliver.result _ _ _ _ c.in-Ok.ensures.answer c.deliver.ensures.status c.deliver.ensures.text c.deliver.ensures.line (run_write_fault _ _ _ _ _ _ c.deliver.result c.deliver.ensures.write_fault)
 
-pub returns-in-Ok-clause-served : goal.returns-in-Ok-clause-served
-returns-in-Ok-clause-served g c = λ done. run_served (record { texts = c.translations_stand.ensures; scripts = c.scripts_stand.ensures; lines = c.lines_stand.ensures; imports = c.imports_stand.ensures; smaller = c.smaller_texts_stand.ensures; traces = c.runs_are_lifted.ensures; witnesses = c.runs_are_lowered.ensures; responses = c.traces_are_lifted.ensures }) _ _ _ _ (run_done _ _ _ c.in-Ok.answer c.deliver.result _ _ c.in-Ok.ensures.answer c.deliver.ensures.status c.deliver.ensures.text done)
+pub returns-in-Ok-clause-correct_output : goal.returns-in-Ok-clause-correct_output
+returns-in-Ok-clause-correct_output g c = λ done. run_correct_output (record { texts = c.translations_are_correct.ensures; scripts = c.scripts_are_correct.ensures; lines = c.lines_are_correct.ensures; imports = c.imports_are_correct.ensures; smaller = c.smaller_texts_are_correct.ensures; traces = c.runs_are_lifted.ensures; witnesses = c.runs_are_lowered.ensures; responses = c.traces_are_lifted.ensures }) _ _ _ _ (run_done _ _ _ c.in-Ok.answer c.deliver.result _ _ c.in-Ok.ensures.answer c.deliver.ensures.status c.deliver.ensures.text done)
 
 pub returns-in-Ok-clause-translates : goal.returns-in-Ok-clause-translates
-returns-in-Ok-clause-translates g c = run_translates c.one_generated.ensures c.translations_stand.ensures _ _ _ _ _ c.in-Ok.answer c.deliver.result _ _ c.in-Ok.ensures.answer c.deliver.ensures.status c.deliver.ensures.text (run_write_fault _ _ _ _ _ _ c.deliver.result c.deliver.ensures.write_fault)
+returns-in-Ok-clause-translates g c = run_translates c.one_generated.ensures c.translations_are_correct.ensures _ _ _ _ _ c.in-Ok.answer c.deliver.result _ _ c.in-Ok.ensures.answer c.deliver.ensures.status c.deliver.ensures.text (run_write_fault _ _ _ _ _ _ c.deliver.result c.deliver.ensures.write_fault)
 
 pub returns-in-Ok-clause-lifts : goal.returns-in-Ok-clause-lifts
 returns-in-Ok-clause-lifts g c = run_lifts c.one_generated.ensures c.runs_are_lifted.ensures _ _ _ _ _ c.in-Ok.answer c.deliver.result _ _ c.in-Ok.ensures.answer c.deliver.ensures.status c.deliver.ensures.text (run_write_fault _ _ _ _ _ _ c.deliver.result c.deliver.ensures.write_fault)
@@ -60,16 +60,16 @@ pub returns-in-Ok-clause-lowers : goal.returns-in-Ok-clause-lowers
 returns-in-Ok-clause-lowers g c = run_lowers c.one_generated.ensures c.runs_are_lowered.ensures _ _ _ _ _ c.in-Ok.answer c.deliver.result _ _ c.in-Ok.ensures.answer c.deliver.ensures.status c.deliver.ensures.text (run_write_fault _ _ _ _ _ _ c.deliver.result c.deliver.ensures.write_fault)
 
 pub returns-in-Ok-clause-lifts_smaller : goal.returns-in-Ok-clause-lifts_smaller
-returns-in-Ok-clause-lifts_smaller g c = run_lifts_smaller c.one_generated.ensures c.runs_are_lifted.ensures c.smaller_texts_stand.ensures _ _ _ _ _ c.in-Ok.answer c.deliver.result _ _ c.in-Ok.ensures.answer c.deliver.ensures.status c.deliver.ensures.text (run_write_fault _ _ _ _ _ _ c.deliver.result c.deliver.ensures.write_fault)
+returns-in-Ok-clause-lifts_smaller g c = run_lifts_smaller c.one_generated.ensures c.runs_are_lifted.ensures c.smaller_texts_are_correct.ensures _ _ _ _ _ c.in-Ok.answer c.deliver.result _ _ c.in-Ok.ensures.answer c.deliver.ensures.status c.deliver.ensures.text (run_write_fault _ _ _ _ _ _ c.deliver.result c.deliver.ensures.write_fault)
 
 pub returns-in-Ok-clause-responds : goal.returns-in-Ok-clause-responds
-returns-in-Ok-clause-responds g c = run_responds c.one_generated.ensures c.traces_are_lifted.ensures c.smaller_texts_stand.ensures _ _ _ _ _ c.in-Ok.answer c.deliver.result _ _ c.in-Ok.ensures.answer c.deliver.ensures.status c.deliver.ensures.text (run_write_fault _ _ _ _ _ _ c.deliver.result c.deliver.ensures.write_fault)
+returns-in-Ok-clause-responds g c = run_responds c.one_generated.ensures c.traces_are_lifted.ensures c.smaller_texts_are_correct.ensures _ _ _ _ _ c.in-Ok.answer c.deliver.result _ _ c.in-Ok.ensures.answer c.deliver.ensures.status c.deliver.ensures.text (run_write_fault _ _ _ _ _ _ c.deliver.result c.deliver.ensures.write_fault)
 
 pub returns-in-Ok-clause-routes : goal.returns-in-Ok-clause-routes
 returns-in-Ok-clause-routes g c = run_routes c.one_generated.ensures c.routes_meet.ensures _ _ _ _ _ c.in-Ok.answer c.deliver.result _ _ c.in-Ok.ensures.answer c.deliver.ensures.status c.deliver.ensures.text (run_write_fault _ _ _ _ _ _ c.deliver.result c.deliver.ensures.write_fault)
 
 pub returns-in-Ok-clause-returns : goal.returns-in-Ok-clause-returns
-returns-in-Ok-clause-returns g c = run_returns c.one_generated.ensures c.imports_stand.ensures c.lines_stand.ensures _ _ _ _ _ c.in-Ok.answer c.deliver.result _ _ c.in-Ok.ensures.answer c.deliver.ensures.status c.deliver.ensures.text (run_write_fault _ _ _ _ _ _ c.deliver.result c.deliver.ensures.write_fault)
+returns-in-Ok-clause-returns g c = run_returns c.one_generated.ensures c.imports_are_correct.ensures c.lines_are_correct.ensures _ _ _ _ _ c.in-Ok.answer c.deliver.result _ _ c.in-Ok.ensures.answer c.deliver.ensures.status c.deliver.ensures.text (run_write_fault _ _ _ _ _ _ c.deliver.result c.deliver.ensures.write_fault)
 
 pub returns-in-Ok-clause-no_text : goal.returns-in-Ok-clause-no_text
 returns-in-Ok-clause-no_text g c = run_no_text _ _ _ c.in-Ok.answer _ _ c.in-Ok.ensures.answer c.deliver.ensures.part

@@ -1,10 +1,10 @@
 use Rattle.std.proofs.Common.{◌≡◌, ℕ, false, List, length, ◌++◌}
-use Rattle.btor_judge.specs.Judging.{StandsFor, has_ended}
+use Rattle.btor_judge.specs.Judging.{Represents, has_ended}
 use Rattle.btor_judge.proofs.judge.Judge.feed.Given as goal
 
 abbrev pub invariant-lines : goal.invariant-lines
 invariant-lines l = record {
-  stands : (text : List ℕ) → StandsFor l.nodes l.fn.self text → (front : List ℕ) × (front ++ l.rest ≡ l.piece) × StandsFor l.nodes l.self (text ++ front);
+  represents : (text : List ℕ) → Represents l.nodes l.fn.self text → (front : List ℕ) × (front ++ l.rest ≡ l.piece) × Represents l.nodes l.self (text ++ front);
   unended : has_ended l.self ≡ false;
 }
 

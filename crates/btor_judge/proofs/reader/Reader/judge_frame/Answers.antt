@@ -1,7 +1,7 @@
 use Rattle.std.proofs.Common.{List, sym, subst}
 use Rattle.text_core.specs.declared.verdict.Verdict.{Verdict}
 use Rattle.word_core.specs.Words.{BitVector}
-use Rattle.btor_frames.specs.Steps.{HandedFit, IsStep}
+use Rattle.btor_frames.specs.Steps.{SuppliedFit, IsStep}
 use Rattle.btor_judge.specs.Standing.{AreJudged, JudgesFrame}
 use Rattle.btor_judge.proofs.Passing.{frame_passes, frame_fails, stays_failed}
 use Rattle.btor_judge.proofs.StandLaws.{frame_handed, stepped, stated_step}
@@ -11,8 +11,8 @@ pub step-requires-clause-handed : goal.step-requires-clause-handed
 step-requires-clause-handed c =
     let lines = c.args.nodes.now in
     let old = c.args.self.now in
-    subst (λ (ws : List BitVector). HandedFit lines ws c.words-in-Yes.result.now) (sym c.words.ensures)
-    (subst (λ (ws : List BitVector). HandedFit lines old.inputs.words ws) (sym c.words-in-Yes.ensures) (frame_handed lines old c.requires.0 c.len-count.ensures.well_formed c.requires.1))
+    subst (λ (ws : List BitVector). SuppliedFit lines ws c.words-in-Yes.result.now) (sym c.words.ensures)
+    (subst (λ (ws : List BitVector). SuppliedFit lines old.inputs.words ws) (sym c.words-in-Yes.ensures) (frame_handed lines old c.requires.0 c.len-count.ensures.well_formed c.requires.1))
 
 pub failure-requires-clause-frame : goal.failure-requires-clause-frame
 failure-requires-clause-frame c = (c.requires.0, stepped c.args.nodes.now c.args.self.now c.requires.0 c.step.new.self c.requires.1 c.step.ensures.fits)

@@ -17,10 +17,10 @@ use Rattle.moxi_scripts.specs.Spelling.{SpellsScript}
 use Rattle.moxi_script_print.specs.Printing.{shown_script}
 use Rattle.moxi_script_print.specs.Again.{ReadsAs, with_place}
 use Rattle.btor_commands.specs.Traces.{SpellsText}
-use Rattle.smv_commands.specs.Scripts.{StandsForModel, moxi_text}
+use Rattle.smv_commands.specs.Scripts.{RepresentsModel, moxi_text}
 use Rattle.smv_script.specs.Script.{script_for}
 use Rattle.smv_commands.proofs.ScriptStands.{stands}
-use Rattle.smv_commands.proofs.script.scripts_stand.Goals as goal
+use Rattle.smv_commands.proofs.script.scripts_are_correct.Goals as goal
 
 pub returns : goal.returns
 unfolding moxi_text
@@ -41,13 +41,13 @@ returns c bytes source a =
     ) in
     let traced : (j k : ℕ) → HasRun source j k → (trace : Trace) × MeetsQuery (script_for source) (query_of j) k trace =
     λ j k r. c.runs_are_traces.ensures.traced source end bytes m.tokens m.lexed m.spelled 0 a.accepted j k r.0 r.1 r.2 in
-    let each : (script : PlainScript) → SpellsText (moxi_text source) script → StandsForModel source script =
+    let each : (script : PlainScript) → SpellsText (moxi_text source) script → RepresentsModel source script =
     λ script t.
     let forms = c.readings_are_one.ensures.forms (moxi_text source) t.forms shown.forms t.formed shown.spelled in
     let b = again t.end in
     let same : script ≡ with_place (script_for source) b.0 =
     c.one_script.ensures shown.forms t.end script (with_place (script_for source) b.0) (subst (λ fs. SpellsScript fs t.end script) forms t.spelled) b.1 in
-    subst (StandsForModel source) (sym same) (stands source b.0 (c.runs_are_traces.ensures.queries source) decoded traced) in
+    subst (RepresentsModel source) (sym same) (stands source b.0 (c.runs_are_traces.ensures.queries source) decoded traced) in
     record {
       there = (with_place (script_for source) (again start).0, record { forms = shown.forms; formed = shown.spelled; end = start; spelled = (again start).1 });
       each = each;

@@ -1,7 +1,7 @@
 use Rattle.text_core.specs.Places.{start, after}
 use Rattle.witness_lift.specs.LineLaws.{model_lines}
 use Rattle.smv_commands.specs.Translation.{btor_text}
-use Rattle.smv_commands.proofs.translate.translations_stand.Goals as goal
+use Rattle.smv_commands.proofs.translate.translations_are_correct.Goals as goal
 
 pub returns : goal.returns
 unfolding btor_text

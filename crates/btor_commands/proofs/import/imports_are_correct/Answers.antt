@@ -12,10 +12,10 @@ use Rattle.moxi_script_print.specs.Again.{ReadsAs, with_place}
 use Rattle.moxi_script_print.specs.NamesOfScripts.{HasSpellableNames}
 use Rattle.moxi_script_print.specs.Printing.{shown_script}
 use Rattle.moxi_term_print.specs.Shown.{SpellsShown, lines_text, shown_depths}
-use Rattle.btor_commands.specs.Importing.{StandsForLines, script_text}
+use Rattle.btor_commands.specs.Importing.{RepresentsLines, script_text}
 use Rattle.btor_commands.specs.Traces.{SpellsText}
 use Rattle.btor_commands.proofs.Imported.{stands}
-use Rattle.btor_commands.proofs.import.imports_stand.Goals as goal
+use Rattle.btor_commands.proofs.import.imports_are_correct.Goals as goal
 
 pub returns : goal.returns
 unfolding script_text
@@ -27,13 +27,13 @@ returns c bytes lines spelled =
     let shown : SpellsShown (lines_text (shown_script (import_of lines))) (shown_script (import_of lines)) =
     c.shown_is_read_back.ensures (shown_script (import_of lines)) (c.whole_scripts_can_be_shown.ensures (import_of lines) whole names) (omega (arith, few)) in
     let again : (end : Place) → ReadsAs shown.forms end (import_of lines) = λ end. c.printed_scripts_are_spelled.ensures (import_of lines) shown.forms end whole shown.shown in
-    let each : (script : PlainScript) → SpellsText (script_text lines) script → StandsForLines lines script =
+    let each : (script : PlainScript) → SpellsText (script_text lines) script → RepresentsLines lines script =
     λ script t.
     let forms = c.readings_are_one.ensures.forms (script_text lines) t.forms shown.forms t.formed shown.spelled in
     let b = again t.end in
     let same : script ≡ with_place (import_of lines) b.0 =
     c.one_script.ensures shown.forms t.end script (with_place (import_of lines) b.0) (subst (λ fs. SpellsScript fs t.end script) forms t.spelled) b.1 in
-    subst (StandsForLines lines) (sym same) (stands lines b.0 well c.traces_have_frames.ensures (c.queries_are_bads.ensures lines well)) in
+    subst (RepresentsLines lines) (sym same) (stands lines b.0 well c.traces_have_frames.ensures (c.queries_are_bads.ensures lines well)) in
     record {
       there = (with_place (import_of lines) (again start).0, record { forms = shown.forms; formed = shown.spelled; end = start; spelled = (again start).1 });
       each = each;

@@ -1,6 +1,0 @@
-use Rattle.moxi_commands.proofs.LinesStand.{lines_stand}
-use Rattle.moxi_commands.proofs.translate.lines_stand.Goals as goal
-
-pub returns : goal.returns
-returns c =
-    lines_stand c.spelled_scripts_are_whole.ensures c.script_lines_are_laid_out.ensures c.bads_are_queries.ensures c.no_two_lines_alike.ensures c.traces_have_frames.ensures c.traces_have_flat_traces.ensures c.printed_spells.ensures c.one_reading.ensures
