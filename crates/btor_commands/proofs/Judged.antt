@@ -52,7 +52,7 @@ defined (Some fs) second bytes lines a spelled h =
     inl (lines, spelled, on_read fs second h.text most_witness_bytes witness_too_long (OfText lines) a h.there h.within h.answers)
 
 -- what is answered to the second file may be given
-pub may_judge : (files : Option Files) (rose : Type 0) (model second bytes : List ℕ) (lines : List Line) → IsFile files model bytes → length bytes ≤ most_btor_bytes → SpellsLines bytes lines
-    → (a : Answer) → IsOfFile files second lines a → MayGive files (model ∷ second ∷ []) (λ fs. IsJudgement fs model second) rose a
-may_judge files rose model second bytes lines there within spelled a h =
-    gives files (model ∷ second ∷ []) rose model bytes most_btor_bytes btor_too_long (λ fs. OfBytes fs second) there within a (text_says lines h.text a h.answers) (defined files second bytes lines a spelled h)
+pub may_judge : (files : Option Files) (faulted : Type 0) (model second bytes : List ℕ) (lines : List Line) → IsFile files model bytes → length bytes ≤ most_btor_bytes → SpellsLines bytes lines
+    → (a : Answer) → IsOfFile files second lines a → MayGive files (model ∷ second ∷ []) (λ fs. IsJudgement fs model second) faulted a
+may_judge files faulted model second bytes lines there within spelled a h =
+    gives files (model ∷ second ∷ []) faulted model bytes most_btor_bytes btor_too_long (λ fs. OfBytes fs second) there within a (text_says lines h.text a h.answers) (defined files second bytes lines a spelled h)

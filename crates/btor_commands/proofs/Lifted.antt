@@ -22,7 +22,7 @@ use Rattle.command_core.specs.declared.answer.Answer.TheVariants as answer
 use Rattle.command_core.specs.declared.answer.Output.TheVariants.{Text}
 use Rattle.command_core.specs.declared.status.Status.TheVariants as status
 use Rattle.command_core.specs.Answers.{status_of}
-use Rattle.command_core.specs.Reading.{GoesOn, file_within, within_limit}
+use Rattle.command_core.specs.Reading.{ContinuesWith, file_within, within_limit}
 use Rattle.command_core.specs.laws.Files.{goes_once}
 use Rattle.btor_commands.specs.Judgement.{witness_too_long}
 use Rattle.btor_commands.specs.Limits.{most_witness_bytes}
@@ -48,12 +48,12 @@ pub one_of_lines : (files : Files) (second btor : List ℕ) (lifted : Witness �
 one_of_lines files second btor lifted a b x y =
     let e : x.0 ≡ y.0 = one_list x.1 y.1 refl in
     goes_once (file_within files second most_witness_bytes witness_too_long) (OfText y.0 lifted) (λ text a b h k. one_text y.0 lifted (reads_well_formed y.1 empty_well_formed) text a b h k) a b
-    (subst (λ ls. GoesOn (file_within files second most_witness_bytes witness_too_long) (OfText ls lifted) a) e x.2) y.2
+    (subst (λ ls. ContinuesWith (file_within files second most_witness_bytes witness_too_long) (OfText ls lifted) a) e x.2) y.2
 
 -- ---- what was lifted
 
 -- what is written for the second file is made of a witness that the judge accepts
-pub done_second : {S : Type 0} (fs : Files) (second : List ℕ) (lines : List Line) (lifted : Witness → List ℕ) (b : Answer) → GoesOn (file_within fs second most_witness_bytes witness_too_long) (OfText lines lifted) b → status_of b ≡ status.Done
+pub done_second : {S : Type 0} (fs : Files) (second : List ℕ) (lines : List Line) (lifted : Witness → List ℕ) (b : Answer) → ContinuesWith (file_within fs second most_witness_bytes witness_too_long) (OfText lines lifted) b → status_of b ≡ status.Done
     → ((text : List ℕ) (w : Witness) → file_at fs second ≡ Some text → SpellsWitness lines text w → judged_btor lines w Yes → b ≡ answer.Done (Text (lifted w)) → S) → S
 done_second {S} fs second lines lifted b h s go = by_content (file_at fs second) refl h
   where
@@ -65,10 +65,10 @@ done_second {S} fs second lines lifted b h s go = by_content (file_at fs second)
     by_text text there (inl x) = by_verdict text x.0 x.2.0 there x.1 x.2.1 x.2.2
     by_text text there (inr r) = let f : status.SecondRefused ≡ status.Done = sym (ap status_of r.2) ∙ s in absurd (cc)
 
-    by_length : (text : List ℕ) (long : Bool) → file_at fs second ≡ Some text → GoesOn (cond long (Err witness_too_long) (Ok text)) (OfText lines lifted) b → S
+    by_length : (text : List ℕ) (long : Bool) → file_at fs second ≡ Some text → ContinuesWith (cond long (Err witness_too_long) (Ok text)) (OfText lines lifted) b → S
     by_length text true there g = let f : status.SecondRefused ≡ status.Done = sym (ap status_of g) ∙ s in absurd (cc)
     by_length text false there g = by_text text there g
 
-    by_content : (content : Option (List ℕ)) → file_at fs second ≡ content → GoesOn (within_limit content second most_witness_bytes witness_too_long) (OfText lines lifted) b → S
+    by_content : (content : Option (List ℕ)) → file_at fs second ≡ content → ContinuesWith (within_limit content second most_witness_bytes witness_too_long) (OfText lines lifted) b → S
     by_content None e g = let f : status.ReadFault ≡ status.Done = sym (ap status_of g) ∙ s in absurd (cc)
     by_content (Some text) e g = by_length text (nat_lt most_witness_bytes (length text)) e g

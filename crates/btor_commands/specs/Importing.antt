@@ -12,7 +12,7 @@ use Rattle.moxi_term_print.specs.Shown.{lines_text}
 use Rattle.moxi_scripts.specs.Script.{PlainScript}
 use Rattle.moxi_script_print.specs.Printing.{shown_script}
 use Rattle.command_core.specs.declared.answer.Answer.{Answer}
-use Rattle.command_core.specs.Reading.{GoesOn, file_within}
+use Rattle.command_core.specs.Reading.{ContinuesWith, file_within}
 use Rattle.command_core.specs.Texts.{IsTextOr}
 use Rattle.btor_commands.specs.Judgement.{btor_too_long}
 use Rattle.btor_commands.specs.Limits.{most_btor_bytes}
@@ -32,7 +32,7 @@ OfBytes bytes answer = IsTextOr (IsScriptText bytes) (λ refusal. IsRefused byte
 
 -- the answer for the file with this name: the script of its lines, or its refusal
 abbrev pub IsImport : Files → List ℕ → Answer → Type 0
-IsImport files model answer = GoesOn (file_within files model most_btor_bytes btor_too_long) OfBytes answer
+IsImport files model answer = ContinuesWith (file_within files model most_btor_bytes btor_too_long) OfBytes answer
 
 -- ---- the properties of the script
 

@@ -18,7 +18,7 @@ use Rattle.command_core.specs.declared.answer.Answer.{Answer}
 use Rattle.command_core.specs.declared.answer.Answer.TheVariants.{Refused, SecondRefused, No, Done}
 use Rattle.command_core.specs.declared.answer.Output.TheVariants.{Yes}
 use Rattle.btor_commands.specs.Limits.{most_btor_bytes, most_witness_bytes}
-use Rattle.command_core.specs.Reading.{GoesOn, file_within}
+use Rattle.command_core.specs.Reading.{ContinuesWith, file_within}
 
 -- the answers for a BTOR2 text and for a witness that are too long
 abbrev pub btor_too_long : Answer
@@ -49,7 +49,7 @@ OfText lines text answer = ((w : Witness) × SpellsWitness lines text w × IsVer
 
 -- the verdict on the witness in the second file, for the lines
 abbrev pub OfLines : Files → List ℕ → List Line → Answer → Type 0
-OfLines files second lines answer = GoesOn (file_within files second most_witness_bytes witness_too_long) (OfText lines) answer
+OfLines files second lines answer = ContinuesWith (file_within files second most_witness_bytes witness_too_long) (OfText lines) answer
 
 -- the verdict on the witness in the second file, for the lines that the bytes spell, or the refusal of the bytes
 abbrev pub OfBytes : Files → List ℕ → List ℕ → Answer → Type 0
@@ -57,4 +57,4 @@ OfBytes files second bytes answer = ((lines : List Line) × SpellsLines bytes li
 
 -- the verdict on the witness in the second file, for the lines in the first
 abbrev pub IsJudgement : Files → List ℕ → List ℕ → Answer → Type 0
-IsJudgement files model second answer = GoesOn (file_within files model most_btor_bytes btor_too_long) (OfBytes files second) answer
+IsJudgement files model second answer = ContinuesWith (file_within files model most_btor_bytes btor_too_long) (OfBytes files second) answer

@@ -11,7 +11,7 @@ use Rattle.btor_witness.specs.Texts.{SpellsWitness}
 use Rattle.command_core.specs.declared.answer.Answer.{Answer}
 use Rattle.command_core.specs.declared.answer.Answer.TheVariants.{No, Done}
 use Rattle.command_core.specs.declared.answer.Output.TheVariants.{Text}
-use Rattle.command_core.specs.Reading.{GoesOn, file_within}
+use Rattle.command_core.specs.Reading.{ContinuesWith, file_within}
 use Rattle.btor_commands.specs.Judgement.{IsWitnessRefusal, witness_too_long}
 use Rattle.btor_commands.specs.Limits.{most_witness_bytes}
 
@@ -30,4 +30,4 @@ OfText lines lifted text answer = ((w : Witness) × SpellsWitness lines text w �
 -- the answer for the witness in the second file, for the lines that a BTOR2 text spells
 abbrev pub OfLines : Files → List ℕ → List ℕ → (Witness → List ℕ) → Answer → Type 0
 OfLines files second btor lifted answer =
-    (lines : List Line) × SpellsLines btor lines × GoesOn (file_within files second most_witness_bytes witness_too_long) (OfText lines lifted) answer
+    (lines : List Line) × SpellsLines btor lines × ContinuesWith (file_within files second most_witness_bytes witness_too_long) (OfText lines lifted) answer

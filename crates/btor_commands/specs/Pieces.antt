@@ -14,11 +14,11 @@ use Rattle.btor_commands.specs.Judgement.{OfText}
 use Rattle.btor_commands.specs.Limits.{most_witness_bytes}
 
 -- The judge represents `count` bytes that were read. Where the bytes to read are exposed, these are a prefix of them, and the rest is left.
-pub record HoldsFront (told : Option (List ℕ)) (lines : List Line) (judge : Judge) (count : ℕ) (left : Option (List ℕ)) : Type 0 where
+pub record HoldsFront (exposed : Option (List ℕ)) (lines : List Line) (judge : Judge) (count : ℕ) (left : Option (List ℕ)) : Type 0 where
   pub text : List ℕ
   pub represents : Represents lines judge text
   pub size : length text ≡ count
-  pub front : told ≡ prefixed text left
+  pub front : exposed ≡ prefixed text left
 
 -- The judge represents a text within the limit. Where the files are exposed, it is the text of the file.
 pub record HoldsFile (files : Option Files) (name : List ℕ) (lines : List Line) (judge : Judge) : Type 0 where

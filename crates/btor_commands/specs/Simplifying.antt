@@ -9,7 +9,7 @@ use Rattle.btor_text.specs.Answer.{IsRefused}
 use Rattle.btor_simplify.specs.Keeping.{IsSmallerList}
 use Rattle.btor_simplify.specs.Simplified.{IsSimplified}
 use Rattle.command_core.specs.declared.answer.Answer.{Answer}
-use Rattle.command_core.specs.Reading.{GoesOn, file_within}
+use Rattle.command_core.specs.Reading.{ContinuesWith, file_within}
 use Rattle.command_core.specs.Texts.{IsTextOr}
 use Rattle.btor_commands.specs.Judgement.{btor_too_long}
 use Rattle.btor_commands.specs.Limits.{most_btor_bytes}
@@ -28,7 +28,7 @@ OfBytes bytes answer = IsTextOr (IsSmallerText bytes) (λ refusal. IsRefused byt
 
 -- the answer for the file with this name: the smaller text of its lines, or its refusal
 abbrev pub IsSimplification : Files → List ℕ → Answer → Type 0
-IsSimplification files model answer = GoesOn (file_within files model most_btor_bytes btor_too_long) OfBytes answer
+IsSimplification files model answer = ContinuesWith (file_within files model most_btor_bytes btor_too_long) OfBytes answer
 
 -- ---- what the smaller text preserves
 

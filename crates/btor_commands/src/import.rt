@@ -1,6 +1,6 @@
 // The command `btor2moxi`.
 ghost use Rattle.std.specs.Prelude.{◌≡◌, ◌≤◌, [], ◌∷◌, length, IfOk, IfErr, IsErrAnd};
-ghost use Rattle.text_core.specs.Outside.{Rose};
+ghost use Rattle.text_core.specs.Outside.{HasNewFault};
 ghost use Rattle.text_core.specs.declared.end.End.TheVariants.{Bad};
 ghost use Rattle.btor_text.specs.Answer.{IsRefused};
 ghost use Rattle.command_core.specs.Giving.{MayGive};
@@ -12,12 +12,12 @@ ghost use Rattle.btor_commands.specs.Judgement.{btor_too_long};
 ghost use Rattle.btor_commands.specs.Limits.{most_btor_bytes};
 
 use crate::judge::BTOR_LIMIT;
-use btor_import::{import_btor, names_are_spellable, scripts_are_whole};
+use btor_import::{import_btor, names_are_spellable, scripts_are_valid};
 use btor_import_laws::{brackets_are_few, queries_are_bads, traces_have_frames};
 use btor_text::read_btor;
 use btor_tree::Nodes;
 use command_core::{Answer, LastFile, Stop, answer_file, refusal, text_answer};
-use moxi_script_print::{print_script, printed_scripts_are_spelled, whole_scripts_can_be_shown};
+use moxi_script_print::{print_script, printed_scripts_are_spelled, valid_scripts_can_be_shown};
 use moxi_scripts::one_script;
 use moxi_sexpr::readings_are_one;
 use moxi_term_print::shown_is_read_back;
@@ -27,8 +27,8 @@ use text_core::{End, Name, NoMemory, Shelf, Text};
 
 /// Reads a BTOR2 text, and returns its translation to MoXI.
 pub fn btor_to_moxi<F: Shelf>(alloc: Global, model: &Name, shelf: &mut F) -> Result<Answer, Stop>
-    ensures answer { IfOk result (MayGive (F.files shelf.old) (model.now ∷ []) (λ files. IsImport files model.now) (Rose (F.faults shelf.old) (F.faults shelf.new))) }
-    ensures stop { IfErr result (StopsWith (MayGive (F.files shelf.old) (model.now ∷ []) (λ files. IsImport files model.now) (Rose (F.faults shelf.old) (F.faults shelf.new)))) }
+    ensures answer { IfOk result (MayGive (F.files shelf.old) (model.now ∷ []) (λ files. IsImport files model.now) (HasNewFault (F.faults shelf.old) (F.faults shelf.new))) }
+    ensures stop { IfErr result (StopsWith (MayGive (F.files shelf.old) (model.now ∷ []) (λ files. IsImport files model.now) (HasNewFault (F.faults shelf.old) (F.faults shelf.new)))) }
     ensures shelf { KeepsShelf (F.files shelf.old) (F.files shelf.new) (F.faults shelf.old) (F.faults shelf.new) (F.begun shelf.old) (F.begun shelf.new) (model.now ∷ []) (IsErrAnd result StopsUnread) }
 {
     answer_file(alloc, model, &BtorToMoxi, shelf)
@@ -89,10 +89,10 @@ fn text_of_lines(alloc: Global, nodes: &Nodes) -> Result<Text, NoMemory>
 pub fn imports_are_correct()
     ensures { ScriptsAreCorrect }
 {
-    scripts_are_whole();
+    scripts_are_valid();
     names_are_spellable();
     brackets_are_few();
-    whole_scripts_can_be_shown();
+    valid_scripts_can_be_shown();
     shown_is_read_back();
     printed_scripts_are_spelled();
     readings_are_one();

@@ -1,6 +1,6 @@
 // The command `judge-btor`.
 ghost use Rattle.std.specs.Prelude.{◌≡◌, ◌≤◌, [], ◌∷◌, length, false, IfOk, IfErr, IsErrAnd};
-ghost use Rattle.text_core.specs.Outside.{BeginsOnly, Rose};
+ghost use Rattle.text_core.specs.Outside.{BeginsOnly, HasNewFault};
 ghost use Rattle.btor_tree.specs.Texts.{SpellsLines};
 ghost use Rattle.btor_judge.specs.Judging.{Represents, has_ended};
 ghost use Rattle.command_core.specs.Giving.{MayGive};
@@ -32,8 +32,8 @@ pub fn judge_files<F: Shelf>(
     second: &Name,
     shelf: &mut F,
 ) -> Result<Answer, Stop>
-    ensures answer { IfOk result (MayGive (F.files shelf.old) (model.now ∷ second.now ∷ []) (λ files. IsJudgement files model.now second.now) (Rose (F.faults shelf.old) (F.faults shelf.new))) }
-    ensures stop { IfErr result (StopsWith (MayGive (F.files shelf.old) (model.now ∷ second.now ∷ []) (λ files. IsJudgement files model.now second.now) (Rose (F.faults shelf.old) (F.faults shelf.new)))) }
+    ensures answer { IfOk result (MayGive (F.files shelf.old) (model.now ∷ second.now ∷ []) (λ files. IsJudgement files model.now second.now) (HasNewFault (F.faults shelf.old) (F.faults shelf.new))) }
+    ensures stop { IfErr result (StopsWith (MayGive (F.files shelf.old) (model.now ∷ second.now ∷ []) (λ files. IsJudgement files model.now second.now) (HasNewFault (F.faults shelf.old) (F.faults shelf.new)))) }
     ensures shelf { KeepsShelf (F.files shelf.old) (F.files shelf.new) (F.faults shelf.old) (F.faults shelf.new) (F.begun shelf.old) (F.begun shelf.new) (model.now ∷ second.now ∷ []) (IsErrAnd result StopsUnread) }
     ensures memory { IfErr result (OnNoMemory (BeginsOnly (F.files shelf.old) (F.begun shelf.old) (F.begun shelf.new) model.now)) }
 {
@@ -66,7 +66,7 @@ fn second_answer<F: Shelf>(
     shelf: &mut F,
 ) -> Result<Answer, Stop>
     ensures answer { IfOk result (IsOfFile (F.files shelf.old) second.now nodes.now) }
-    ensures stop { IfErr result (StopsWith (Instead (F.files shelf.old) (Rose (F.faults shelf.old) (F.faults shelf.new)) second.now most_witness_bytes witness_too_long)) }
+    ensures stop { IfErr result (StopsWith (Instead (F.files shelf.old) (HasNewFault (F.faults shelf.old) (F.faults shelf.new)) second.now most_witness_bytes witness_too_long)) }
     ensures shelf { KeepsShelf (F.files shelf.old) (F.files shelf.new) (F.faults shelf.old) (F.faults shelf.new) (F.begun shelf.old) (F.begun shelf.new) (second.now ∷ []) (IsErrAnd result StopsUnread) }
     ensures memory { IfErr result (OnNoMemory (F.begun shelf.new ≡ F.begun shelf.old)) }
 {
@@ -89,7 +89,7 @@ fn fed_answer<F: Shelf>(
     requires represents { Represents nodes.now judge.old [] }
     requires going { has_ended judge.old ≡ false }
     ensures answer { IfOk result (IsOfFile (F.files shelf.old) second.now nodes.now) }
-    ensures stop { IfErr result (StopsWith (Instead (F.files shelf.old) (Rose (F.faults shelf.old) (F.faults shelf.new)) second.now most_witness_bytes witness_too_long)) }
+    ensures stop { IfErr result (StopsWith (Instead (F.files shelf.old) (HasNewFault (F.faults shelf.old) (F.faults shelf.new)) second.now most_witness_bytes witness_too_long)) }
     ensures memory { IfErr result (OnNoMemory ⊥) }
     ensures shelf { KeepsShelf (F.files shelf.old) (F.files shelf.new) (F.faults shelf.old) (F.faults shelf.new) (F.begun shelf.old) (F.begun shelf.new) (second.now ∷ []) (IsErrAnd result StopsUnread) }
 {

@@ -1,6 +1,6 @@
 // Feeds a file piece by piece to a judge of witnesses. Nothing here allocates.
 ghost use Rattle.std.specs.Prelude.{◌≡◌, ◌⊎◌, ◌<◌, ◌≤◌, ◌+◌, [], List, ℕ, Option, length, false, IfOk, OnOk, IsErrOf};
-ghost use Rattle.text_core.specs.Outside.{IsMissing, IsLonger, IsAtEnd, BeginsOnly, Rose};
+ghost use Rattle.text_core.specs.Outside.{IsMissing, IsLonger, IsAtEnd, BeginsOnly, HasNewFault};
 ghost use Rattle.text_core.specs.Reading.{IsPast};
 ghost use Rattle.btor_judge.specs.Judging.{RepresentsSome, Represents, has_ended};
 ghost use Rattle.btor_commands.specs.Limits.{most_witness_bytes};
@@ -37,7 +37,7 @@ pub fn feed_file<F: Shelf>(
     ensures fed { OnOk result (HoldsFile (F.files shelf.old) name.now nodes.now judge.new) }
 
     // A fault is returned only where one was counted or the file is missing.
-    ensures cause { IsErrOf result PieceEnd.Fault → Rose (F.faults shelf.old) (F.faults shelf.new) ⊎ IsMissing (F.files shelf.old) name.now }
+    ensures cause { IsErrOf result PieceEnd.Fault → HasNewFault (F.faults shelf.old) (F.faults shelf.new) ⊎ IsMissing (F.files shelf.old) name.now }
     ensures fault { F.faults shelf.old < F.faults shelf.new → IsErrOf result PieceEnd.Fault }
     ensures too_long { IsErrOf result PieceEnd.TooLong → IsLonger (F.files shelf.old) name.now most_witness_bytes }
 
@@ -71,15 +71,15 @@ fn feed_piece<F: Shelf>(
     requires within { count ≤ most_witness_bytes }
     requires represents { RepresentsSome nodes.now judge.old }
     requires going { has_ended judge.old ≡ false }
-    ensures front { (told : Option (List ℕ)) → HoldsFront told nodes.now judge.old count (F.left shelf.old) → IfOk result (λ n. HoldsFront told nodes.now judge.new (count + n) (F.left shelf.new)) }
+    ensures front { (exposed : Option (List ℕ)) → HoldsFront exposed nodes.now judge.old count (F.left shelf.old) → IfOk result (λ n. HoldsFront exposed nodes.now judge.new (count + n) (F.left shelf.new)) }
     ensures within { IfOk result (λ n. count + n ≤ most_witness_bytes) }
     ensures at_end { IfOk result (λ n. n ≡ 0 → IsAtEnd (F.left shelf.new)) }
     ensures going { has_ended judge.new ≡ false }
     ensures room { length buffer.new ≡ length buffer.old }
     ensures steady { OnOk result (F.faults shelf.new ≡ F.faults shelf.old) }
-    ensures cause { IsErrOf result PieceEnd.Fault → Rose (F.faults shelf.old) (F.faults shelf.new) }
+    ensures cause { IsErrOf result PieceEnd.Fault → HasNewFault (F.faults shelf.old) (F.faults shelf.new) }
     ensures fault { F.faults shelf.old < F.faults shelf.new → IsErrOf result PieceEnd.Fault }
-    ensures past { (told : Option (List ℕ)) → HoldsFront told nodes.now judge.old count (F.left shelf.old) → IsErrOf result PieceEnd.TooLong → IsPast told most_witness_bytes }
+    ensures past { (exposed : Option (List ℕ)) → HoldsFront exposed nodes.now judge.old count (F.left shelf.old) → IsErrOf result PieceEnd.TooLong → IsPast exposed most_witness_bytes }
     ensures later { F.faults shelf.old ≤ F.faults shelf.new }
     ensures files { F.files shelf.new ≡ F.files shelf.old }
     ensures begun { F.begun shelf.new ≡ F.begun shelf.old }

@@ -1,6 +1,6 @@
 // The command `simplify`.
 ghost use Rattle.std.specs.Prelude.{◌≡◌, ◌≤◌, [], ◌∷◌, List, length, IfOk, IfErr, IsErrAnd};
-ghost use Rattle.text_core.specs.Outside.{Rose};
+ghost use Rattle.text_core.specs.Outside.{HasNewFault};
 ghost use Rattle.text_core.specs.declared.end.End.TheVariants.{Bad};
 ghost use Rattle.btor_tree.specs.Printing.{printed};
 ghost use Rattle.btor_tree.specs.declared.lines.Line.{Line};
@@ -26,8 +26,8 @@ use text_core::{End, Name, NoMemory, Shelf, Text};
 
 /// Reads a BTOR2 text, and prints a simplified list of lines with the same witnesses.
 pub fn simplify_btor<F: Shelf>(alloc: Global, model: &Name, shelf: &mut F) -> Result<Answer, Stop>
-    ensures answer { IfOk result (MayGive (F.files shelf.old) (model.now ∷ []) (λ files. IsSimplification files model.now) (Rose (F.faults shelf.old) (F.faults shelf.new))) }
-    ensures stop { IfErr result (StopsWith (MayGive (F.files shelf.old) (model.now ∷ []) (λ files. IsSimplification files model.now) (Rose (F.faults shelf.old) (F.faults shelf.new)))) }
+    ensures answer { IfOk result (MayGive (F.files shelf.old) (model.now ∷ []) (λ files. IsSimplification files model.now) (HasNewFault (F.faults shelf.old) (F.faults shelf.new))) }
+    ensures stop { IfErr result (StopsWith (MayGive (F.files shelf.old) (model.now ∷ []) (λ files. IsSimplification files model.now) (HasNewFault (F.faults shelf.old) (F.faults shelf.new)))) }
     ensures shelf { KeepsShelf (F.files shelf.old) (F.files shelf.new) (F.faults shelf.old) (F.faults shelf.new) (F.begun shelf.old) (F.begun shelf.new) (model.now ∷ []) (IsErrAnd result StopsUnread) }
 {
     answer_file(alloc, model, &SimplifyBtor, shelf)

@@ -16,7 +16,7 @@ pub earlier_more : (n m : ℕ) (args : List Arg) → n ≤ m → AreEarlier n ar
 earlier_more n m [] h e = tt
 earlier_more n m (a ∷ more) h e = (omega (arith, e.0), earlier_more n m more h e.1)
 
--- the arguments of a line stand before it, inside the list
+-- the arguments of a line are before it, inside the list
 pub earlier_inside : (lines : List Line) (i : ℕ) (l : Line) (n : ℕ) → IsWellFormed lines → slice_get lines i ≡ Some l → n ≡ length lines → AreEarlier n l.args
 earlier_inside lines i l n w g e =
     let inside = slice_get_inside lines i l g in

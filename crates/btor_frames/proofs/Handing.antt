@@ -1,4 +1,4 @@
--- The words that are handed in, tested line by line.
+-- The words that are supplied, tested line by line.
 use Rattle.std.proofs.Common.{◌≡◌, ℕ, ◌+◌, ◌<◌, ◌≤◌, true, List, length, take, Option, Some, sym, ap, ◌∙◌, subst, arith, inl, inr, ◌⊎◌}
 use Rattle.std.specs.Prelude.{slice_get, IfSome}
 use Rattle.std.proofs.lemmas.Bool.{cases_lt}
@@ -53,7 +53,7 @@ pub record FitSoFar (lines : List Line) (inputs free : List BitVector) (i input 
   pub state_is : state ≡ count_of is_state (take i lines)
   pub fits : (k : ℕ) (l : Line) → k < i → slice_get lines k ≡ Some l → GivenFits (take k lines) l.sort l.op (supplied_for l.op (take k lines) inputs free)
 
--- the word that is handed in for a line
+-- the word that is supplied for a line
 pub handed_is : (lines : List Line) (inputs free : List BitVector) (i : ℕ) (l : Line) → slice_get lines i ≡ Some l → supplied_at lines inputs free i ≡ supplied_for l.op (take i lines) inputs free
 handed_is lines inputs free i l g = ap (λ o. supplied_line o (take i lines) inputs free) g
 

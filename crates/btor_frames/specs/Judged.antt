@@ -66,7 +66,7 @@ pub record StatementFits (lines : List Line) (stated : Statement) : Type 0 where
   pub inputs : (i : ℕ) (l : Line) (x : BitVector) → slice_get lines i ≡ Some l → l.op ≡ Input → stated.inputs (count_of is_input (take i lines)) ≡ Some x → IsOfLine lines i x
   pub states : (i : ℕ) (l : Line) (x : BitVector) → slice_get lines i ≡ Some l → l.op ≡ State → stated.states (count_of is_state (take i lines)) ≡ Some x → IsOfLine lines i x
 
--- the words that are handed in are those of a statement: the stated word or zero for each input line and each state line
+-- the words that are supplied are those of a statement: the stated word or zero for each input line and each state line
 pub record SuppliesStated (lines : List Line) (stated : Statement) (inputs free : List BitVector) : Type 0 where
   pub inputs_stated : (i : ℕ) (l : Line) → slice_get lines i ≡ Some l → l.op ≡ Input → word_at inputs (count_of is_input (take i lines)) ≡ stated_or (stated.inputs (count_of is_input (take i lines))) (width_at lines i)
   pub states_stated : (i : ℕ) (l : Line) → slice_get lines i ≡ Some l → l.op ≡ State → word_at free (count_of is_state (take i lines)) ≡ stated_or (stated.states (count_of is_state (take i lines))) (width_at lines i)

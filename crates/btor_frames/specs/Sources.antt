@@ -46,7 +46,7 @@ pub record HoldsSources (lines : List Line) (sources : List Source) : Type 0 whe
   pub sized : length sources ≡ length lines
   pub at : (i : ℕ) (l : Line) (s : Source) → slice_get lines i ≡ Some l → slice_get sources i ≡ Some s → IsSource lines i l s
 
--- nothing stands at the places of lines that have no word
+-- nothing is at the places of lines that have no word
 abbrev pub IsBlank : List Source → List BitVector → Type 0
 IsBlank sources row = (i : ℕ) → slice_get sources i ≡ Some NoWord → word_at row i ≡ nothing
 

@@ -29,7 +29,7 @@ abbrev pub value_word : Bool → List Line → List BitVector → List BitVector
 value_word true lines last row a = operand last a
 value_word false lines last row a = init_operand lines row a
 
--- the word that is handed in for a line: inputs and states have one each, in order
+-- the word that is supplied for a line: inputs and states have one each, in order
 abbrev pub supplied_for : LineOp → List Line → List BitVector → List BitVector → BitVector
 supplied_for Input before inputs free = word_at inputs (count_of is_input before)
 supplied_for State before inputs free = word_at free (count_of is_state before)

@@ -62,7 +62,7 @@ fn constant_word(nodes: &Nodes, i: usize) -> Word
     }
 }
 
-// The word of an init's value: a constant's, which may stand on a later line, or an earlier word.
+// The word of an init's value: a constant's, which may appear on a later line, or an earlier word.
 fn init_operand(nodes: &Nodes, row: &Words, a: &Arg) -> Word
     requires well_formed { IsWellFormed nodes.now }
     requires long { length row.now ≡ length nodes.now }

@@ -54,7 +54,7 @@ fn put_eq(a: u32, b: u32, i: usize, row: &mut Words)
     row.set(i, eq_word(row.at(a as usize), row.at(b as usize)));
 }
 
-// Sets the word of the line at index i by its source. A line that has no word keeps what stands there.
+// Sets the word of the line at index i by its source. A line that has no word keeps what is there.
 #[inline(always)]
 fn put_source(
     nodes: &Nodes,
@@ -112,7 +112,7 @@ fn fill_next(
 
 /// Fills a row of words: the frame after `last` where `begun` is true, else frame 0.
 ///
-/// A line without a word keeps what stands at its place, which therefore has to be zero before the call.
+/// A line without a word keeps what is at its place, which therefore has to be zero before the call.
 pub fn fill(
     nodes: &Nodes,
     tables: &Tables,

@@ -1,4 +1,4 @@
--- Applications whose arguments have their sorts can stand where nothing is declared.
+-- Applications whose arguments have their sorts can appear where nothing is declared.
 use Rattle.std.proofs.Common.{◌≡◌, ℕ, zero, suc, ◌+◌, ◌-◌, ◌^◌, ◌<◌, ◌≤◌, Bool, true, false, cond, nat_le, nat_lt, ◌==◌, if◌then◌else◌, List, [], ◌∷◌, length, Option, Some, None, Ok, Err, option_map, refl, sym, ap, ◌∙◌, subst, arith}
 use Rattle.std.proofs.lemmas.Bool.{and_from, eqb-true, eqb-false, lt-ltb, le-leb}
 use Rattle.std.proofs.Math.Nat.{one-le-pow}
@@ -25,7 +25,7 @@ use Rattle.moxi_terms.specs.Tree.{Tree, apply, Trees, no_trees, tree, trees_of}
 use Rattle.moxi_term_reading.specs.declared.locals.Local.{Local}
 use Rattle.moxi_term_reading.specs.Reading.{Context}
 use Rattle.moxi_term_print.specs.Terms.{operator_word, binary_word}
-use Rattle.moxi_term_print.specs.Standing.{Stands, StandEach, StandsOperator}
+use Rattle.moxi_term_print.specs.WellScoped.{IsWellScoped, AreWellScoped, IsKnownOperator}
 use Rattle.btor_import.specs.Operators.{one, two, word_term, not_term, words_term, equal_term, choice_term, truth_term, falsity_term, is_one, bits_from, parity_term, unary_term, binary_term}
 use Rattle.moxi_term_print.proofs.SortedTerms.{copies, counted, same_self, two_fit}
 
@@ -129,7 +129,7 @@ named o h = absurd (cc)
 head_is : (o : TermOp) → is_known o ≡ true → head_named no_scope (operator_word o) ≡ Some (heads.Operator o)
 head_is o h = ap (option_map heads.Operator) (named o h)
 
-operator_stands : (o : TermOp) → is_known o ≡ true → StandsOperator no_scope o
+operator_stands : (o : TermOp) → is_known o ≡ true → IsKnownOperator no_scope o
 operator_stands op.Not h = absurd (cc)
 operator_stands op.And h = head_is op.And h
 operator_stands op.Or h = absurd (cc)
@@ -152,7 +152,7 @@ context_of vars primes = record { scope = no_scope; variables = vars; primes = p
 module _ (vars : List Local) (primes : Primes) where
   -- a term of a sort that can stand
   abbrev pub IsTerm : Tree → Sort → Type 0
-  IsTerm t s = Stands (context_of vars primes) [] t s
+  IsTerm t s = IsWellScoped (context_of vars primes) [] t s
 
   one_stand : (o : TermOp) (s z : Sort) (a : Tree) → is_known o ≡ true → op_sort o (s ∷ []) ≡ Ok z → IsTerm a s → IsTerm (apply o (one a)) z
   one_stand o s z a h e i = (s ∷ [], (i, tt), e, operator_stands o h)
@@ -192,10 +192,10 @@ module _ (vars : List Local) (primes : Primes) where
 
   -- one operator on many terms of one sort
   many_stand : (o : TermOp) (s z : Sort) (t : Tree) (ts : Trees) → is_known o ≡ true → count_fits o (length (copies s (tree t ts))) ≡ true → (common (s ∷ copies s ts) ≡ Some s → fitting o (copies s (tree t ts)) ≡ Ok z)
-      → StandEach (context_of vars primes) [] (tree t ts) (copies s (tree t ts)) → IsTerm (apply o (tree t ts)) z
+      → AreWellScoped (context_of vars primes) [] (tree t ts) (copies s (tree t ts)) → IsTerm (apply o (tree t ts)) z
   many_stand o s z t ts h c f i = (copies s (tree t ts), i, counted o (copies s (tree t ts)) z c (f (common_copies s ts)), operator_stands o h)
 
-  pub and_stands : (t : Tree) (ts : Trees) → StandEach (context_of vars primes) [] (tree t ts) (copies Truth (tree t ts)) → IsTerm (apply op.And (tree t ts)) Truth
+  pub and_stands : (t : Tree) (ts : Trees) → AreWellScoped (context_of vars primes) [] (tree t ts) (copies Truth (tree t ts)) → IsTerm (apply op.And (tree t ts)) Truth
   and_stands t ts i = many_stand op.And Truth Truth t ts refl (le-leb 1 (length (copies Truth (tree t ts))) (omega arith)) (λ e. ap logical e) i
 
   -- ---- parts and extensions of words
@@ -215,7 +215,7 @@ module _ (vars : List Local) (primes : Primes) where
 
   -- ---- bits of a word
 
-  bits_stand : (m : ℕ) (a : Tree) → m ≤ WIDEST → IsTerm a (Bits m) → (i n : ℕ) → i + n ≤ m → StandEach (context_of vars primes) [] (trees_of (bits_from i n a)) (copies (Bits 1) (trees_of (bits_from i n a)))
+  bits_stand : (m : ℕ) (a : Tree) → m ≤ WIDEST → IsTerm a (Bits m) → (i n : ℕ) → i + n ≤ m → AreWellScoped (context_of vars primes) [] (trees_of (bits_from i n a)) (copies (Bits 1) (trees_of (bits_from i n a)))
   bits_stand m a most s i zero h = tt
   bits_stand m a most s i (suc n) h =
       (subst (λ k. IsTerm (apply (op.Extract i i) (one a)) (Bits k)) (let e : i - i + 1 ≡ 1 = omega arith in e) (extract_stands i i m a most (omega (arith, h)) (omega arith) s), bits_stand m a most s (i + 1) n (omega (arith, h)))

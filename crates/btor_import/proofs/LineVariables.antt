@@ -14,7 +14,7 @@ use Rattle.moxi_terms.specs.declared.term.Variable.{Variable}
 use Rattle.btor_import.specs.Script.{is_local, lines_in, number_among, number_of, variable_of, variables_in}
 use Rattle.btor_import.proofs.Lists.{behind, in_front, mapped_at, one_of_two}
 
--- ---- lines of a kind, by how many stand before
+-- ---- lines of a kind, by how many are before
 
 pub lines_long : (kind : LineOp → Bool) (lines : List Line) → length (lines_in kind lines) ≡ count_of kind lines
 lines_long kind [] = refl

@@ -1,4 +1,4 @@
--- The terms of a script can stand in it.
+-- The terms of a script can appear in it.
 use Rattle.std.proofs.Common.{◌≡◌, ◌≢◌, ℕ, zero, suc, ◌+◌, ◌-◌, ◌≤◌, Bool, true, false, cond, if◌then◌else◌, List, [], ◌∷◌, ◌++◌, take, drop, Option, Some, None, option_map, refl, sym, ap, ◌∙◌, subst, arith}
 use Rattle.std.specs.Prelude.{slice_get, codes}
 use Rattle.std.specs.List.{AllByRecursion}
@@ -34,7 +34,7 @@ use Rattle.moxi_term_reading.specs.Finding.{Found, first_of}
 use Rattle.moxi_term_reading.specs.Reading.{Context, meaning_of, names_of}
 use Rattle.moxi_term_reading.specs.Answer.{locals_of}
 use Rattle.moxi_term_print.specs.Terms.{name_at, variable_names}
-use Rattle.moxi_term_print.specs.Standing.{StandEach, StandsPrime}
+use Rattle.moxi_term_print.specs.WellScoped.{AreWellScoped, IsAllowedPrime}
 use Rattle.btor_import.specs.Operators.{argument, is_one, line_term, not_term, operand_term}
 use Rattle.btor_import.specs.Script.{all_term, equation_term, formula_of, init_part, inv_part, is_local, lines_in, number_of, parts_from, reachables_from, trans_part, value_part}
 use Rattle.moxi_scripts.specs.Script.{PlainFormula}
@@ -93,7 +93,7 @@ meaning_is c name o e =
     ap (λ (p : Option Found). or_else (option_map (λ (f : Found). meaning.Variable f.number f.sort) p) (or_else (value_named c.scope name) (call_of bare_call c.scope.functions (place_of (function_names c.scope) name)))) e
 
 -- primes may be missing everywhere
-unprimed : (primes : Primes) → StandsPrime primes false
+unprimed : (primes : Primes) → IsAllowedPrime primes false
 unprimed Allowed = tt
 unprimed Refused = refl
 
@@ -128,7 +128,7 @@ module _ (lines : List Line) (well : IsWellFormed lines) where
     abbrev pub IsTermHere : Tree → Sort → Type 0
     IsTermHere t s = IsTerm (locals_of (all_variables lines)) primes t s
 
-    variable_stands : (v : ℕ) (x : Variable) (primed : Bool) → slice_get (all_variables lines) v ≡ Some x → StandsPrime primes primed → IsTermHere (variable v primed) x.sort
+    variable_stands : (v : ℕ) (x : Variable) (primed : Bool) → slice_get (all_variables lines) v ≡ Some x → IsAllowedPrime primes primed → IsTermHere (variable v primed) x.sort
     variable_stands v x primed h p =
         let c = context_of (locals_of (all_variables lines)) primes in (
           ap (meaning_of c []) (name_of (all_variables lines) v x h)
@@ -144,7 +144,7 @@ module _ (lines : List Line) (well : IsWellFormed lines) where
     )
 
     -- the variable of a line with a word
-    pub line_stands : (i : ℕ) (primed : Bool) → 1 ≤ width_at lines i → StandsPrime primes primed → IsTermHere (variable (number_of lines i) primed) (Bits (width_at lines i))
+    pub line_stands : (i : ℕ) (primed : Bool) → 1 ≤ width_at lines i → IsAllowedPrime primes primed → IsTermHere (variable (number_of lines i) primed) (Bits (width_at lines i))
     line_stands i primed h p =
         let g = line_at lines i h in
         subst (λ n. IsTermHere (variable (number_of lines i) primed) (Bits n)) (sym g.3) (variable_stands (number_of lines i) (variable_for lines g.0) primed (variable_there lines i g.0 g.1 g.2) p)
@@ -238,7 +238,7 @@ module _ (lines : List Line) (well : IsWellFormed lines) where
       line_term_stands s line.Output args f h = absurd (cc)
 
       -- a state has a value
-      pub value_stands : (kind : LineOp → Bool) (s : ℕ) (args : List Arg) (primed : Bool) → StandsPrime primes primed → OnTwo args (λ x v. GivesValue kind (take i lines) s x v) → IsTermHere (value_part (number_of lines) primed args) Truth
+      pub value_stands : (kind : LineOp → Bool) (s : ℕ) (args : List Arg) (primed : Bool) → IsAllowedPrime primes primed → OnTwo args (λ x v. GivesValue kind (take i lines) s x v) → IsTermHere (value_part (number_of lines) primed args) Truth
       value_stands kind s (x ∷ v ∷ []) primed p f =
           let some : 1 ≤ width_at (take i lines) x.line = let e = f.3 in let k = f.2 in omega (arith, e, k) in
           let here = wider x.line some in
@@ -257,7 +257,7 @@ module _ (lines : List Line) (well : IsWellFormed lines) where
 
     -- ---- conjunctions
 
-    each_stands : (xs : List Tree) → AllByRecursion (λ t. IsTermHere t Truth) xs → StandEach (context_of (locals_of (all_variables lines)) primes) [] (trees_of xs) (copies Truth (trees_of xs))
+    each_stands : (xs : List Tree) → AllByRecursion (λ t. IsTermHere t Truth) xs → AreWellScoped (context_of (locals_of (all_variables lines)) primes) [] (trees_of xs) (copies Truth (trees_of xs))
     each_stands [] h = tt
     each_stands (x ∷ xs) h = (h.0, each_stands xs h.1)
 

@@ -1,4 +1,4 @@
--- The script of well-formed lines is whole.
+-- The script of well-formed lines is valid.
 use Rattle.std.proofs.Common.{◌≡◌, ℕ, zero, suc, ◌+◌, ◌≤◌, ◌<◌, ◌^◌, true, false, List, [], ◌∷◌, ◌++◌, drop, length, decimal, Some, refl, sym, ap, subst, arith}
 use Rattle.std.specs.Prelude.{slice_get, codes}
 use Rattle.std.specs.List.{AllByRecursion}
@@ -13,7 +13,7 @@ use Rattle.moxi_terms.specs.declared.term.Variable.{Variable}
 use Rattle.moxi_terms.specs.Names.{is_term_name, no_scope}
 use Rattle.moxi_terms.specs.Sorts.{IsSort}
 use Rattle.moxi_term_print.specs.Terms.{variable_names}
-use Rattle.moxi_scripts.specs.Whole.{AreVariables, IsWholeScope, IsWholeSystem, AreWholeSystems, formula_names, IsWholeQuery, query_names, IsWholeCheck, IsWhole}
+use Rattle.moxi_scripts.specs.Valid.{AreVariables, IsValidScope, IsValidSystem, AreValidSystems, formula_names, IsValidQuery, query_names, IsValidCheck, IsValid}
 use Rattle.btor_import.specs.Script.{check_of, import_of, lines_in, number_of, queries_from, reachables_from, system_of}
 use Rattle.btor_import.proofs.Lists.{all_by}
 use Rattle.btor_import.proofs.Standing.{IsFree, all_free, sort_some, init_stands, inv_stands, names_differ, reachables_stand, trans_stands}
@@ -24,7 +24,7 @@ use Rattle.name_maps.proofs.FreshNames.{AllDiffer, Lacks, all_fresh, all_mapped}
 nothing_there : {X : Type 0} {Y : Type 0} (n : ℕ) (x : X) → slice_get (let e : List X = [] in e) n ≡ Some x → Y
 nothing_there n x h = cc
 
-whole_scope : IsWholeScope no_scope
+whole_scope : IsValidScope no_scope
 whole_scope = record {
   scope = record { enumerations = tt; sorts = tt; functions = λ n f h. nothing_there n f h };
   sorts = record { differ = refl; free = tt };
@@ -56,7 +56,7 @@ pub reachables_long : (number : ℕ → ℕ) (j : ℕ) (ls : List Line) → leng
 reachables_long number j [] = refl
 reachables_long number j (b ∷ bs) = ap suc (reachables_long number (j + 1) bs)
 
-queries_whole : (n j : ℕ) (ls : List Line) → j + length ls ≤ n → AllByRecursion (IsWholeQuery 0 0 n) (queries_from j ls)
+queries_whole : (n j : ℕ) (ls : List Line) → j + length ls ≤ n → AllByRecursion (IsValidQuery 0 0 n) (queries_from j ls)
 queries_whole n j [] h = tt
 queries_whole n j (b ∷ bs) h = (record { assumptions_there = tt; currents_there = tt; reachables_there = (omega (arith, h), tt); reachables_differ = refl }, queries_whole n (j + 1) bs (omega (arith, h)))
 
@@ -85,7 +85,7 @@ module _ (lines : List Line) (well : IsWellFormed lines) where
     sorts = all_mapped (IsSort []) (λ (v : Variable). v.sort) (all_variables lines) sorts_are;
   }
 
-  whole_system : IsWholeSystem no_scope (system_of lines ∷ []) (system_of lines)
+  whole_system : IsValidSystem no_scope (system_of lines ∷ []) (system_of lines)
   whole_system = record {
     variables = whole_variables;
     init = init_stands lines well;
@@ -95,14 +95,14 @@ module _ (lines : List Line) (well : IsWellFormed lines) where
     subsystems = tt;
   }
 
-  whole_systems : AreWholeSystems no_scope (system_of lines ∷ [])
+  whole_systems : AreValidSystems no_scope (system_of lines ∷ [])
   whole_systems = record {
     names = refl;
     systems = (whole_system, tt);
     acyclic = never_returns ([] ∷ []) (0 ∷ []) (record { within = refl; whole = only_node; once = refl; falls = refl });
   }
 
-  whole_check : IsWholeCheck no_scope (system_of lines ∷ []) (check_of lines)
+  whole_check : IsValidCheck no_scope (system_of lines ∷ []) (check_of lines)
   whole_check = record {
     there = omega arith;
     fits = record { inputs = refl; outputs = refl; locals = refl };
@@ -120,5 +120,5 @@ module _ (lines : List Line) (well : IsWellFormed lines) where
     };
   }
 
-  pub whole_script : IsWhole (import_of lines)
+  pub whole_script : IsValid (import_of lines)
   whole_script = record { scope = whole_scope; systems = whole_systems; check = whole_check }

@@ -4,11 +4,11 @@ use Rattle.btor_tree.specs.declared.lines.Line.{Line}
 use Rattle.btor_tree.specs.Fits.{IsWellFormed}
 use Rattle.moxi_scripts.specs.Invariant.{IsSpelled}
 use Rattle.moxi_script_print.specs.NamesOfScripts.{HasSpellableNames}
-use Rattle.moxi_scripts.specs.Whole.{IsWhole}
+use Rattle.moxi_scripts.specs.Valid.{IsValid}
 use Rattle.btor_import.specs.Script.{import_of}
 
-abbrev pub ScriptsAreWhole : Type 0
-ScriptsAreWhole = (lines : List Line) → IsWellFormed lines → IsWhole (import_of lines)
+abbrev pub ScriptsAreValid : Type 0
+ScriptsAreValid = (lines : List Line) → IsWellFormed lines → IsValid (import_of lines)
 
 abbrev pub NamesAreSpellable : Type 0
 NamesAreSpellable = (lines : List Line) → IsWellFormed lines → HasSpellableNames (import_of lines)

@@ -74,7 +74,7 @@ inv_part lines number i l =
     if is_local l.op then equation_term number lines i l ∷ []
     else (if is_constraint l.op then is_one (operand_term number (argument l.args 0)) ∷ [] else [])
 
--- the parts of lines, of which the first stands at place i
+-- the parts of lines, of which the first is at place i
 abbrev pub parts_from : (ℕ → Line → List Tree) → ℕ → List Line → List Tree
 parts_from part i [] = []
 parts_from part i (l ∷ ls) = part i l ++ parts_from part (i + 1) ls

@@ -1,4 +1,4 @@
--- The widths of the words that stand in the term of a line.
+-- The widths of the words that are in the term of a line.
 use Rattle.std.specs.Prelude.{ℕ, ◌≤◌, List}
 use Rattle.word_core.specs.declared.word.TheConstants.{WIDEST}
 use Rattle.btor_tree.specs.declared.args.Arg.{Arg}

@@ -1,14 +1,14 @@
 // Laws of the translation of lines to scripts.
-ghost use Rattle.btor_import.specs.Laws.{NamesAreSpellable, ScriptsAreSpelled, ScriptsAreWhole};
+ghost use Rattle.btor_import.specs.Laws.{NamesAreSpellable, ScriptsAreSpelled, ScriptsAreValid};
 
-use moxi_script_print::{printed_scripts_are_spelled, whole_scripts_can_be_shown};
+use moxi_script_print::{printed_scripts_are_spelled, valid_scripts_can_be_shown};
 
 /// Proves that the translation of well-formed lines is a complete script (MoXI, SPIN 2024).
 ///
-/// Its names differ and have one meaning each, its terms have their sorts and may stand in their places, and its
+/// Its names differ and have one meaning each, its terms have their sorts and may appear in their places, and its
 /// numbers are in range. Its one system contains no other.
-pub fn scripts_are_whole()
-    ensures { ScriptsAreWhole }
+pub fn scripts_are_valid()
+    ensures { ScriptsAreValid }
 {}
 
 /// Proves that each name of the script has a printed form (SMT-LIB 2.6, section 3.1).
@@ -22,6 +22,6 @@ pub fn names_are_spellable()
 pub fn scripts_are_spelled()
     ensures { ScriptsAreSpelled }
 {
-    whole_scripts_can_be_shown();
+    valid_scripts_can_be_shown();
     printed_scripts_are_spelled();
 }

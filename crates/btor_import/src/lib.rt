@@ -9,5 +9,5 @@ mod script;
 mod terms;
 mod variables;
 
-pub use laws::{names_are_spellable, scripts_are_spelled, scripts_are_whole};
+pub use laws::{names_are_spellable, scripts_are_spelled, scripts_are_valid};
 pub use script::import_btor;

@@ -26,7 +26,7 @@ use Rattle.btor_import.specs.Script.{all_term, check_of, equation_term, formula_
 use Rattle.btor_import.proofs.Standing.{parts_all}
 use Rattle.btor_import_laws.specs.Laws.{BracketsAreFew}
 use Rattle.moxi_script_print.proofs.Depths.{call_depth, joined_depths, lists_depth, operator_depth, queries_depth, value_depth}
-use Rattle.moxi_scripts.specs.Whole.{check_variables, formula_names}
+use Rattle.moxi_scripts.specs.Valid.{check_variables, formula_names}
 
 -- ---- how many brackets of a term stand open at most
 

@@ -88,7 +88,7 @@ after_letter false false x = refl
 
 -- ---- the values of a row
 
--- the place of the line whose variable has a number, among lines of which the first stands at place i
+-- the place of the line whose variable has a number, among lines of which the first is at place i
 abbrev pub place_from : List Line → ℕ → List Line → ℕ → ℕ
 place_from lines i [] v = 0
 place_from lines i (l ∷ ls) v = if has_word l.op && (number_of lines i == v) then i else place_from lines (suc i) ls v

@@ -1,4 +1,4 @@
--- Laws of words that the rules stand on.
+-- Laws of words on which the rules rest.
 use Rattle.std.proofs.Common.{◌≡◌, ℕ, ◌+◌, ◌-◌, ◌*◌, ◌/◌, ◌%◌, ◌^◌, ◌<◌, ◌≤◌, min, Bool, true, false, cond, not, refl, ap, arith, ◌∙◌}
 use Rattle.std.specs.Prelude.{bit_and, bit_or, bit_xor, nat_lt}
 use Rattle.std.specs.Int.Bits.{and_self, or_add_and, xor_add_and}

@@ -1,4 +1,4 @@
--- What two lines say is told apart by its order.
+-- What two lines say is distinguished by its order.
 use Rattle.std.proofs.Common.{◌≡◌, ℕ, true, List, ap, ◌∙◌, arith}
 use Rattle.std.specs.Prelude.{slice_index_or}
 use Rattle.std.specs.declared.cmp.Ordering.TheVariants.{Equal}

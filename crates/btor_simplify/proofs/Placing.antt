@@ -12,7 +12,7 @@ use Rattle.btor_simplify.specs.Marks.{is_marked, AreMarks, AreKnown}
 use Rattle.btor_simplify.specs.Order.{has_sort, IsLiveSort, is_in, with_place, with_sort_of, with_line, order_upto}
 use Rattle.btor_simplify.proofs.Ordering.{differ, not_sort, sort_of_line}
 
--- a line that has this sort stands at a place of the order
+-- a line that has this sort is at a place of the order
 pub record HasSortAt (lines : List Line) (fates : List Outcome) (places : List ℕ) (q s : ℕ) : Type 0 where
   pub from : ℕ
   pub line : Line

@@ -1,4 +1,4 @@
--- Witnesses of two lists with the same words are the same, and are judged alike.
+-- Witnesses of two lists with the same words are the same, and are judged equally.
 use Rattle.std.proofs.Common.{◌≡◌, ℕ, suc, ◌<◌, ◌≤◌, Bool, true, false, List, [], ◌∷◌, length, sym, subst, inl, inr, ◌⊎◌}
 use Rattle.text_core.specs.declared.place.Kind.TheVariants.{X}
 use Rattle.text_core.specs.declared.place.Refusal.{Refusal}

@@ -391,7 +391,7 @@ module _ (lines : List Line) (fates : List Outcome) (places : List ℕ) (moved :
               from : (y : LineOp) → l.op ≡ y → has_sort y ≡ true
               from y h = sorted_kind y (subst (λ z. kind z ≡ true) h kl)
 
-    -- an init's value stands before its state, or is a constant
+    -- an init's value is before its state, or is a constant
     init_rule : fate_at fates i ≡ Stays → (x v : Arg) → l.args ≡ x ∷ v ∷ [] → kind_at is_state (take i lines) x.line ≡ true → 1 ≤ width_at (take i lines) v.line → InitRule (take i lines) x v → InitRule new (moved_arg moved (replaced fates x)) (moved_arg moved (replaced fates v))
     init_rule st x v e s wide r =
         let all : AreBefore moved (map (replaced fates) l.args) q = subst (λ f. AreBefore moved (args_by fates f l.args) q) st ready.args in

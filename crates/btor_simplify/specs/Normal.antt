@@ -17,7 +17,7 @@ abbrev pub AreSameConstants : List Line → Line → Line → Type 0
 AreSameConstants lines l m =
     (c : BitVector) × (constant_of (sort_at lines l.sort) l.op ≡ Some c) × (constant_of (sort_at lines m.sort) m.op ≡ Some c)
 
--- no two sorts, constants or operators are alike but for id and symbol, and no two constants have one width and value
+-- no two sorts, constants or operators are equal but for id and symbol, and no two constants have one width and value
 pub record HasNoTwoSame (lines : List Line) : Type 0 where
   pub by_places : (p q : ℕ) (l m : Line) → slice_get lines p ≡ Some l → slice_get lines q ≡ Some m → is_shared l.op ≡ true → is_shared m.op ≡ true → Says m.op m.sort m.args l ⊎ AreSameConstants lines l m → p ≡ q
 

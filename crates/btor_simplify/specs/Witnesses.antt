@@ -1,4 +1,4 @@
--- Witnesses of two lists are the same, and are judged alike.
+-- Witnesses of two lists are the same, and are judged equally.
 use Rattle.std.specs.Prelude.{◌↔◌, ℕ, List}
 use Rattle.text_core.specs.declared.end.End.TheVariants.{Bad}
 use Rattle.text_core.specs.declared.place.Refusal.{Refusal}

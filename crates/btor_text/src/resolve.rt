@@ -134,7 +134,7 @@ fn is_first(progress: &Progress, kind: Binding, state: u32) -> bool
     }
 }
 
-// Whether the value of an init stands before its state, or is a constant.
+// Whether the value of an init is before its state, or is a constant.
 fn is_in_time(nodes: &Nodes, kind: Binding, state: u32, value: u32) -> bool
     ensures { result ≡ rules.is_in_time (seen_binding kind) nodes.now state value }
 {

@@ -13,7 +13,7 @@ use Rattle.btor_tree.specs.declared.lines.LineOp.{LineOp}
 use Rattle.btor_tree.specs.declared.lines.LineOp.TheVariants as op
 use Rattle.btor_tree.specs.Fits.{sort_at, sort_width}
 use Rattle.btor_tree.specs.Shapes.{unaries, unary_number, binaries, binary_number}
-use Rattle.btor_tree.specs.Sharing.{is_shared, op_kind, op_number, op_second, same_op, same_sign, same_arg, same_args, is_alike, place_alike, standing, next_line, placed, pushed, Says, SaysAt, GrowsQuietly, HasNoTwoAlike, Push, built}
+use Rattle.btor_tree.specs.Sharing.{is_shared, op_kind, op_number, op_second, same_op, same_sign, same_arg, same_args, is_equal_line, place_of_equal, standing, next_line, placed, pushed, Says, SaysAt, GrowsByShared, HasNoDuplicates, Push, built}
 use Rattle.btor_tree.proofs.AtPlaces.{width_of_sort}
 use Rattle.btor_tree.proofs.Grows.{push_cases, slice_get_end}
 
@@ -111,7 +111,7 @@ args_self : (xs : List Arg) → same_args xs xs ≡ true
 args_self [] = refl
 args_self (x ∷ xs) = and_from _ _ (arg_self x) (args_self xs)
 
-pub alike_says : (o : LineOp) (sort : ℕ) (args : List Arg) (l : Line) → is_shared o ≡ true → is_alike o sort args l ≡ true → Says o sort args l
+pub alike_says : (o : LineOp) (sort : ℕ) (args : List Arg) (l : Line) → is_shared o ≡ true → is_equal_line o sort args l ≡ true → Says o sort args l
 alike_says o sort args l h e =
     let p = and_parts _ _ e in
     let q = and_parts _ _ p.1 in
@@ -121,7 +121,7 @@ alike_self : (o : LineOp) (sort : ℕ) (args : List Arg) → (same_op o o && (eq
 alike_self o sort args =
     and_from _ _ (and_from _ _ (eq-eqb (op_kind o) (op_kind o) refl) (and_from _ _ (eq-eqb (op_number o) (op_number o) refl) (eq-eqb (op_second o) (op_second o) refl))) (and_from _ _ (eq-eqb sort sort refl) (args_self args))
 
-pub says_alike : (o : LineOp) (sort : ℕ) (args : List Arg) (l : Line) → Says o sort args l → is_alike o sort args l ≡ true
+pub says_alike : (o : LineOp) (sort : ℕ) (args : List Arg) (l : Line) → Says o sort args l → is_equal_line o sort args l ≡ true
 says_alike o sort args l s =
     ap (λ m. same_op o m && (eqb sort l.sort && same_args args l.args)) s.0
     ∙ ap (λ m. same_op o o && (eqb sort m && same_args args l.args)) s.1
@@ -138,26 +138,26 @@ none_step true r h = absurd (none-some 0 (sym h))
 none_step false None h = (refl, refl)
 none_step false (Some q) h = absurd (none-some (suc q) (sym h))
 
-pub place_says : (lines : List Line) (o : LineOp) (sort : ℕ) (args : List Arg) (p : ℕ) → is_shared o ≡ true → place_alike lines o sort args ≡ Some p → (l : Line) × (slice_get lines p ≡ Some l) × Says o sort args l
+pub place_says : (lines : List Line) (o : LineOp) (sort : ℕ) (args : List Arg) (p : ℕ) → is_shared o ≡ true → place_of_equal lines o sort args ≡ Some p → (l : Line) × (slice_get lines p ≡ Some l) × Says o sort args l
 place_says [] o sort args p h e = absurd (none-some p e)
 place_says (l ∷ ls) o sort args p h e =
-    elim (place_step (is_alike o sort args l) (place_alike ls o sort args) p e) [
+    elim (place_step (is_equal_line o sort args l) (place_of_equal ls o sort args) p e) [
       | inl z ↦ (l, ap (slice_get (l ∷ ls)) z.1, alike_says o sort args l h z.0)
       | inr s ↦
           let r = place_says ls o sort args s.0 h s.1 in
           (r.0, ap (slice_get (l ∷ ls)) s.2 ∙ r.1, r.2)
     ]
 
-pub none_says : (lines : List Line) (o : LineOp) (sort : ℕ) (args : List Arg) → place_alike lines o sort args ≡ None → (i : ℕ) (m : Line) → slice_get lines i ≡ Some m → Says o sort args m → ⊥
+pub none_says : (lines : List Line) (o : LineOp) (sort : ℕ) (args : List Arg) → place_of_equal lines o sort args ≡ None → (i : ℕ) (m : Line) → slice_get lines i ≡ Some m → Says o sort args m → ⊥
 none_says [] o sort args e i m g s = none-some m g
 none_says (l ∷ ls) o sort args e zero m g s =
-    let n = none_step (is_alike o sort args l) (place_alike ls o sort args) e in
-    both_ways (is_alike o sort args l) n.0 (says_alike o sort args l (subst (Says o sort args) (sym (same_Some l m g)) s))
+    let n = none_step (is_equal_line o sort args l) (place_of_equal ls o sort args) e in
+    both_ways (is_equal_line o sort args l) n.0 (says_alike o sort args l (subst (Says o sort args) (sym (same_Some l m g)) s))
 none_says (l ∷ ls) o sort args e (suc i) m g s =
-    none_says ls o sort args (none_step (is_alike o sort args l) (place_alike ls o sort args) e).1 i m g s
+    none_says ls o sort args (none_step (is_equal_line o sort args l) (place_of_equal ls o sort args) e).1 i m g s
 
 -- what a push found, and what it made
-choice_says : (lines : List Line) (o : LineOp) (sort : ℕ) (args : List Arg) (b : Bool) → is_shared o ≡ b → (p : ℕ) → cond b (place_alike lines o sort args) None ≡ Some p → SaysAt lines p o sort args
+choice_says : (lines : List Line) (o : LineOp) (sort : ℕ) (args : List Arg) (b : Bool) → is_shared o ≡ b → (p : ℕ) → cond b (place_of_equal lines o sort args) None ≡ Some p → SaysAt lines p o sort args
 choice_says lines o sort args true h p e = place_says lines o sort args p h e
 choice_says lines o sort args false h p e = absurd (none-some p e)
 
@@ -176,21 +176,21 @@ append_none : {X : Type 0} (xs : List X) → xs ≡ xs ++ []
 append_none [] = refl
 append_none (x ∷ xs) = ap (λ ys. x ∷ ys) (append_none xs)
 
-placed_quiet : (lines : List Line) (l : Line) (found : Option ℕ) → is_shared l.op ≡ true → GrowsQuietly lines (placed found lines l).0
+placed_quiet : (lines : List Line) (l : Line) (found : Option ℕ) → is_shared l.op ≡ true → GrowsByShared lines (placed found lines l).0
 placed_quiet lines l (Some p) h = ([], append_none lines, tt)
 placed_quiet lines l None h = (l ∷ [], refl, (h, tt))
 
-pub pushed_quiet : (lines : List Line) (o : LineOp) (sort : ℕ) (args : List Arg) (symbol : Option (List ℕ)) → is_shared o ≡ true → GrowsQuietly lines (pushed lines o sort args symbol).0
+pub pushed_quiet : (lines : List Line) (o : LineOp) (sort : ℕ) (args : List Arg) (symbol : Option (List ℕ)) → is_shared o ≡ true → GrowsByShared lines (pushed lines o sort args symbol).0
 pushed_quiet lines o sort args symbol h = placed_quiet lines (next_line lines o sort args symbol) (standing lines o sort args) h
 
 -- no two lines say the same
-pub none_alike : HasNoTwoAlike []
+pub none_alike : HasNoDuplicates []
 none_alike = record { by_places = λ i j l m g k h s. absurd (none-some l g) }
 
 says_back : (l m : Line) → Says m.op m.sort m.args l → Says l.op l.sort l.args m
 says_back l m s = (sym s.0, sym s.1, sym s.2)
 
-pub distinct_push : (lines : List Line) (l : Line) → HasNoTwoAlike lines → (is_shared l.op ≡ true → (i : ℕ) (m : Line) → slice_get lines i ≡ Some m → Says l.op l.sort l.args m → ⊥) → HasNoTwoAlike (lines ++ l ∷ [])
+pub distinct_push : (lines : List Line) (l : Line) → HasNoDuplicates lines → (is_shared l.op ≡ true → (i : ℕ) (m : Line) → slice_get lines i ≡ Some m → Says l.op l.sort l.args m → ⊥) → HasNoDuplicates (lines ++ l ∷ [])
 distinct_push lines l d new =
     record {
       by_places = λ i j x y g k h s.
@@ -210,18 +210,18 @@ distinct_push lines l d new =
           ];
     }
 
-placed_distinct : (lines : List Line) (l : Line) (found : Option ℕ) → HasNoTwoAlike lines → (found ≡ None → is_shared l.op ≡ true → (i : ℕ) (m : Line) → slice_get lines i ≡ Some m → Says l.op l.sort l.args m → ⊥) → HasNoTwoAlike (placed found lines l).0
+placed_distinct : (lines : List Line) (l : Line) (found : Option ℕ) → HasNoDuplicates lines → (found ≡ None → is_shared l.op ≡ true → (i : ℕ) (m : Line) → slice_get lines i ≡ Some m → Says l.op l.sort l.args m → ⊥) → HasNoDuplicates (placed found lines l).0
 placed_distinct lines l (Some p) d h = d
 placed_distinct lines l None d h = distinct_push lines l d (h refl)
 
-pub standing_none : (lines : List Line) (o : LineOp) (sort : ℕ) (args : List Arg) → standing lines o sort args ≡ None → is_shared o ≡ true → place_alike lines o sort args ≡ None
-standing_none lines o sort args e h = sym (ap (λ b. cond b (place_alike lines o sort args) None) h) ∙ e
+pub standing_none : (lines : List Line) (o : LineOp) (sort : ℕ) (args : List Arg) → standing lines o sort args ≡ None → is_shared o ≡ true → place_of_equal lines o sort args ≡ None
+standing_none lines o sort args e h = sym (ap (λ b. cond b (place_of_equal lines o sort args) None) h) ∙ e
 
-pub pushed_distinct : (lines : List Line) (o : LineOp) (sort : ℕ) (args : List Arg) (symbol : Option (List ℕ)) → HasNoTwoAlike lines → HasNoTwoAlike (pushed lines o sort args symbol).0
+pub pushed_distinct : (lines : List Line) (o : LineOp) (sort : ℕ) (args : List Arg) (symbol : Option (List ℕ)) → HasNoDuplicates lines → HasNoDuplicates (pushed lines o sort args symbol).0
 pushed_distinct lines o sort args symbol d =
     placed_distinct lines (next_line lines o sort args symbol) (standing lines o sort args) d (λ e h. none_says lines o sort args (standing_none lines o sort args e h))
 
-pub built_distinct : (lines : List Line) (pushes : List Push) → HasNoTwoAlike lines → HasNoTwoAlike (built lines pushes)
+pub built_distinct : (lines : List Line) (pushes : List Push) → HasNoDuplicates lines → HasNoDuplicates (built lines pushes)
 built_distinct lines [] d = d
 built_distinct lines (p ∷ ps) d = built_distinct (pushed lines p.op p.sort p.args p.symbol).0 ps (pushed_distinct lines p.op p.sort p.args p.symbol d)
 

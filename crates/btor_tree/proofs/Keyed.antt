@@ -18,7 +18,7 @@ use Rattle.btor_tree.specs.declared.lines.LineOp.TheVariants as op
 use Rattle.btor_tree.specs.declared.line_key.LineKey.{LineKey}
 use Rattle.btor_tree.specs.Fits.{plain_arg, OnOne, OnTwo, OnThree, OpFits, Suits, Fits, greatest_id}
 use Rattle.btor_tree.specs.Held.{IsNumbered}
-use Rattle.btor_tree.specs.Sharing.{is_shared, is_alike, place_alike, standing, next_line, Says}
+use Rattle.btor_tree.specs.Sharing.{is_shared, is_equal_line, place_of_equal, standing, next_line, Says}
 use Rattle.btor_tree.specs.LineKeys.{IsShort, key_of, line_key, arg_cmp, key_cmp, is_keyed, place_keyed}
 use Rattle.btor_tree.proofs.Alike.{alike_says, says_alike, op_told}
 
@@ -178,20 +178,20 @@ both_so true b f g = sym (f refl)
 both_so false true f g = g refl
 both_so false false f g = refl
 
-pub alike_keyed : (o : LineOp) (sort : ℕ) (args : List Arg) (l : Line) → is_shared o ≡ true → IsShort args → is_alike o sort args l ≡ is_keyed (key_of o sort args) l
+pub alike_keyed : (o : LineOp) (sort : ℕ) (args : List Arg) (l : Line) → is_shared o ≡ true → IsShort args → is_equal_line o sort args l ≡ is_keyed (key_of o sort args) l
 alike_keyed o sort args l h short =
     both_so _ _ (λ e. says_keyed o sort args l h (alike_says o sort args l h e)) (λ e. says_alike o sort args l (keyed_says o sort args l h short e))
 
-places_same : (lines : List Line) (o : LineOp) (sort : ℕ) (args : List Arg) → is_shared o ≡ true → IsShort args → place_alike lines o sort args ≡ place_keyed lines (key_of o sort args)
+places_same : (lines : List Line) (o : LineOp) (sort : ℕ) (args : List Arg) → is_shared o ≡ true → IsShort args → place_of_equal lines o sort args ≡ place_keyed lines (key_of o sort args)
 places_same [] o sort args h short = refl
 places_same (l ∷ ls) o sort args h short =
-    ap (λ b. cond b (Some 0) (option_map suc (place_alike ls o sort args))) (alike_keyed o sort args l h short)
+    ap (λ b. cond b (Some 0) (option_map suc (place_of_equal ls o sort args))) (alike_keyed o sort args l h short)
     ∙ ap (λ r. cond (is_keyed (key_of o sort args) l) (Some 0) (option_map suc r)) (places_same ls o sort args h short)
 
 -- where what is pushed stands
 pub standing_keyed : (lines : List Line) (l : Line) → is_shared l.op ≡ true → IsShort l.args → standing lines l.op l.sort l.args ≡ place_keyed lines (line_key l)
 standing_keyed lines l h short =
-    ap (λ b. cond b (place_alike lines l.op l.sort l.args) None) h ∙ places_same lines l.op l.sort l.args h short
+    ap (λ b. cond b (place_of_equal lines l.op l.sort l.args) None) h ∙ places_same lines l.op l.sort l.args h short
 
 -- one line more
 or_step : (b c : Bool) (r : Option ℕ) (n : ℕ) → cond b (Some 0) (option_map suc (option_or r (cond c (Some n) None))) ≡ option_or (cond b (Some 0) (option_map suc r)) (cond c (Some (suc n)) None)

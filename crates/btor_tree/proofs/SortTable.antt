@@ -13,7 +13,7 @@ use Rattle.btor_tree.specs.declared.lines.LineOp.{LineOp}
 use Rattle.btor_tree.specs.declared.lines.LineOp.TheVariants as op
 use Rattle.btor_tree.specs.Fits.{IsWellFormed, Suits, greatest_id}
 use Rattle.btor_tree.specs.Held.{IsNumbered}
-use Rattle.btor_tree.specs.Sharing.{HasNoTwoAlike, is_alike, place_alike, standing, next_line, placed, pushed}
+use Rattle.btor_tree.specs.Sharing.{HasNoDuplicates, is_equal_line, place_of_equal, standing, next_line, placed, pushed}
 use Rattle.btor_tree.specs.LineKeys.{KnowsSorts}
 use Rattle.btor_tree.proofs.Alike.{none_step, pushed_distinct, says_alike}
 use Rattle.btor_tree.proofs.Equations.{pushed_fit}
@@ -25,10 +25,10 @@ stays_step true r s p f h = h
 stays_step false None s p f h = absurd (none-some p h)
 stays_step false (Some q) s p f h = ap (option_map suc) (f q refl) ∙ h
 
-place_stays : (lines : List Line) (l : Line) (o : LineOp) (sort : ℕ) (args : List Arg) (p : ℕ) → place_alike lines o sort args ≡ Some p → place_alike (lines ++ l ∷ []) o sort args ≡ Some p
+place_stays : (lines : List Line) (l : Line) (o : LineOp) (sort : ℕ) (args : List Arg) (p : ℕ) → place_of_equal lines o sort args ≡ Some p → place_of_equal (lines ++ l ∷ []) o sort args ≡ Some p
 place_stays [] l o sort args p h = absurd (none-some p h)
 place_stays (m ∷ ms) l o sort args p h =
-    stays_step (is_alike o sort args m) (place_alike ms o sort args) (place_alike (ms ++ l ∷ []) o sort args) p (place_stays ms l o sort args) h
+    stays_step (is_equal_line o sort args m) (place_of_equal ms o sort args) (place_of_equal (ms ++ l ∷ []) o sort args) p (place_stays ms l o sort args) h
 
 knows_push : (lines : List Line) (l : Line) (sorts : List (Option ℕ)) → KnowsSorts lines sorts → KnowsSorts (lines ++ l ∷ []) sorts
 knows_push lines l sorts k =
@@ -43,7 +43,7 @@ knows_pushed lines o sort args symbol sorts k = knows_placed (standing lines o s
 
 -- what a builder keeps of its lines and its table
 abbrev pub Keeps : List Line → List (Option ℕ) → Type 0
-Keeps lines sorts = IsWellFormed lines × IsNumbered lines × HasNoTwoAlike lines × KnowsSorts lines sorts
+Keeps lines sorts = IsWellFormed lines × IsNumbered lines × HasNoDuplicates lines × KnowsSorts lines sorts
 
 keeps_pushed : (lines : List Line) (sorts : List (Option ℕ)) (o : LineOp) (sort : ℕ) (args : List Arg) (symbol : Option (List ℕ)) → Keeps lines sorts → length lines < greatest_id → Suits lines o sort args symbol → Keeps (pushed lines o sort args symbol).0 sorts
 keeps_pushed lines sorts o sort args symbol k room suits =
@@ -63,7 +63,7 @@ pub knows_none : (lines : List Line) → KnowsSorts lines (no_places WIDEST)
 knows_none lines = record { long = refl; places = λ w p h. absurd (none-some p (sym (none_at WIDEST w) ∙ h)) }
 
 -- one place more
-pub knows_set : (lines : List Line) (sorts : List (Option ℕ)) (w place : ℕ) → 1 ≤ w → w ≤ WIDEST → place_alike lines (op.Sort w) 0 [] ≡ Some place → KnowsSorts lines sorts → KnowsSorts lines (set sorts (w - 1) (Some place))
+pub knows_set : (lines : List Line) (sorts : List (Option ℕ)) (w place : ℕ) → 1 ≤ w → w ≤ WIDEST → place_of_equal lines (op.Sort w) 0 [] ≡ Some place → KnowsSorts lines sorts → KnowsSorts lines (set sorts (w - 1) (Some place))
 knows_set lines sorts w place least most there k =
     record {
       long = length-set sorts (w - 1) (Some place) ∙ k.long;
@@ -71,30 +71,30 @@ knows_set lines sorts w place least most there k =
           elim (cases_eq v (w - 1)) [
             | inl e ↦
                 let same : place ≡ p = same_Some place p (sym (get_or-set_same sorts (w - 1) (Some place) None (omega (arith, least, most, k.long))) ∙ ap (λ u. get_or (set sorts (w - 1) (Some place)) u None) (sym e) ∙ h) in
-                ap (λ u. place_alike lines (op.Sort u) 0 []) (omega (arith, e, least)) ∙ there ∙ ap (λ q. Some q) same
+                ap (λ u. place_of_equal lines (op.Sort u) 0 []) (omega (arith, e, least)) ∙ there ∙ ap (λ q. Some q) same
             | inr d ↦ k.places v p (sym (get_or-set_other sorts (w - 1) v (Some place) None d) ∙ h)
           ];
     }
 
 -- the place that a push of a sort answers is that of the first such line
-place_end : (lines : List Line) (l : Line) (o : LineOp) (sort : ℕ) (args : List Arg) → place_alike lines o sort args ≡ None → is_alike o sort args l ≡ true → place_alike (lines ++ l ∷ []) o sort args ≡ Some (length lines)
+place_end : (lines : List Line) (l : Line) (o : LineOp) (sort : ℕ) (args : List Arg) → place_of_equal lines o sort args ≡ None → is_equal_line o sort args l ≡ true → place_of_equal (lines ++ l ∷ []) o sort args ≡ Some (length lines)
 place_end [] l o sort args none h = ap (λ b. cond b (Some 0) None) h
 place_end (m ∷ ms) l o sort args none h =
-    let n = none_step (is_alike o sort args m) (place_alike ms o sort args) none in
-    ap (λ b. cond b (Some 0) (option_map suc (place_alike (ms ++ l ∷ []) o sort args))) n.0 ∙ ap (option_map suc) (place_end ms l o sort args n.1 h)
+    let n = none_step (is_equal_line o sort args m) (place_of_equal ms o sort args) none in
+    ap (λ b. cond b (Some 0) (option_map suc (place_of_equal (ms ++ l ∷ []) o sort args))) n.0 ∙ ap (option_map suc) (place_end ms l o sort args n.1 h)
 
-placed_there : (lines : List Line) (l : Line) (found : Option ℕ) → place_alike lines l.op l.sort l.args ≡ found → place_alike (placed found lines l).0 l.op l.sort l.args ≡ Some (placed found lines l).1
+placed_there : (lines : List Line) (l : Line) (found : Option ℕ) → place_of_equal lines l.op l.sort l.args ≡ found → place_of_equal (placed found lines l).0 l.op l.sort l.args ≡ Some (placed found lines l).1
 placed_there lines l (Some p) e = e
 placed_there lines l None e = place_end lines l l.op l.sort l.args e (says_alike l.op l.sort l.args l (refl, refl, refl))
 
-pub pushed_there : (lines : List Line) (w : ℕ) (args : List Arg) (symbol : Option (List ℕ)) (more : List Line) (p : ℕ) → args ≡ [] → (more, p) ≡ pushed lines (op.Sort w) 0 args symbol → place_alike more (op.Sort w) 0 [] ≡ Some p
+pub pushed_there : (lines : List Line) (w : ℕ) (args : List Arg) (symbol : Option (List ℕ)) (more : List Line) (p : ℕ) → args ≡ [] → (more, p) ≡ pushed lines (op.Sort w) 0 args symbol → place_of_equal more (op.Sort w) 0 [] ≡ Some p
 pushed_there lines w args symbol more p none e =
-    subst (λ given. place_alike more (op.Sort w) 0 given ≡ Some p) none
-    (subst (λ (x : List Line × ℕ). place_alike x.0 (op.Sort w) 0 args ≡ Some x.1) (sym e)
-    (placed_there lines (next_line lines (op.Sort w) 0 args symbol) (place_alike lines (op.Sort w) 0 args) refl))
+    subst (λ given. place_of_equal more (op.Sort w) 0 given ≡ Some p) none
+    (subst (λ (x : List Line × ℕ). place_of_equal x.0 (op.Sort w) 0 args ≡ Some x.1) (sym e)
+    (placed_there lines (next_line lines (op.Sort w) 0 args symbol) (place_of_equal lines (op.Sort w) 0 args) refl))
 
 -- a width that the table knows
 pub sort_known : (lines : List Line) (sorts : List (Option ℕ)) (w place : ℕ) → 1 ≤ w → get_or sorts (w - 1) None ≡ Some place → KnowsSorts lines sorts → (lines, place) ≡ pushed lines (op.Sort w) 0 [] None
 sort_known lines sorts w place least h k =
-    let there : place_alike lines (op.Sort w) 0 [] ≡ Some place = ap (λ u. place_alike lines (op.Sort u) 0 []) (omega (arith, least)) ∙ k.places (w - 1) place h in
+    let there : place_of_equal lines (op.Sort w) 0 [] ≡ Some place = ap (λ u. place_of_equal lines (op.Sort u) 0 []) (omega (arith, least)) ∙ k.places (w - 1) place h in
     ap (λ r. placed r lines (next_line lines (op.Sort w) 0 [] None)) (sym there)

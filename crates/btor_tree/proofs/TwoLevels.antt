@@ -13,7 +13,7 @@ use Rattle.btor_tree.specs.declared.line_key.LineKey.{LineKey}
 use Rattle.btor_tree.specs.declared.line_places.LinePlaces.{LinePlaces}
 use Rattle.btor_tree.specs.declared.lines.Line.{Line}
 use Rattle.btor_tree.specs.LineKeys.{IsShort, line_key, key_cmp, is_keyed, is_keyed_at, place_keyed, slot_of, known_from, HasPlaces, EntersKey}
-use Rattle.btor_tree.specs.Sharing.{is_alike, is_shared, placed, standing}
+use Rattle.btor_tree.specs.Sharing.{is_equal_line, is_shared, placed, standing}
 use Rattle.btor_tree.proofs.Grows.{slice_get_front, slice_get_end, inside_get}
 use Rattle.btor_tree.proofs.Keyed.{alike_keyed, at_same, other_keyed, place_more, place_push, push_not, standing_keyed, unshared_keyed}
 
@@ -60,14 +60,14 @@ module _ (lines : List Line) (l : Line) (old : LinePlaces) (has : HasPlaces line
   pub none_found : at_slot old (line_key l) ≡ None → None ≡ standing lines l.op l.sort l.args
   none_found e = known_standing None e
 
-  alike_there : (p : ℕ) (m : Line) (b : Bool) → slice_get lines p ≡ Some m → is_alike l.op l.sort l.args m ≡ b → is_keyed_at (line_key l) (slice_get lines p) ≡ b
+  alike_there : (p : ℕ) (m : Line) (b : Bool) → slice_get lines p ≡ Some m → is_equal_line l.op l.sort l.args m ≡ b → is_keyed_at (line_key l) (slice_get lines p) ≡ b
   alike_there p m b at e = ap (is_keyed_at (line_key l)) at ∙ sym (alike_keyed l.op l.sort l.args m shared short) ∙ e
 
-  pub slot_found : (p : ℕ) (m : Line) → at_slot old (line_key l) ≡ Some p → slice_get lines p ≡ Some m → is_alike l.op l.sort l.args m ≡ true → Some p ≡ standing lines l.op l.sort l.args
+  pub slot_found : (p : ℕ) (m : Line) → at_slot old (line_key l) ≡ Some p → slice_get lines p ≡ Some m → is_equal_line l.op l.sort l.args m ≡ true → Some p ≡ standing lines l.op l.sort l.args
   slot_found p m first at e =
       ap (λ b. cond b (Some p) (get key_cmp old.others (line_key l))) (sym (alike_there p m true at e)) ∙ known_standing (Some p) first
 
-  pub other_found : (p : ℕ) (m : Line) → at_slot old (line_key l) ≡ Some p → slice_get lines p ≡ Some m → is_alike l.op l.sort l.args m ≡ false → get key_cmp old.others (line_key l) ≡ standing lines l.op l.sort l.args
+  pub other_found : (p : ℕ) (m : Line) → at_slot old (line_key l) ≡ Some p → slice_get lines p ≡ Some m → is_equal_line l.op l.sort l.args m ≡ false → get key_cmp old.others (line_key l) ≡ standing lines l.op l.sort l.args
   other_found p m first at e =
       ap (λ b. cond b (Some p) (get key_cmp old.others (line_key l))) (sym (alike_there p m false at e)) ∙ known_standing (Some p) first
 

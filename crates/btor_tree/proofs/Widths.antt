@@ -161,7 +161,7 @@ equation_wide before row s (Sext n) (a ∷ []) x w t f e b =
 equation_wide before row s (Sext n) (a ∷ c ∷ more) x w t f e b = absurd e
 equation_wide before row s op args x w t f e b = absurd (cc)
 
--- a sort stands before each line with a word
+-- a sort is before each line with a word
 pub sort_there : (before : List Line) (s : ℕ) (op : LineOp) (args : List Arg) → OpFits before s op args → has_word op ≡ true → 1 ≤ sort_at before s
 sort_there before s Input args f b = f.0
 sort_there before s State args f b = f.0

@@ -115,7 +115,7 @@ abbrev pub operands : (LineOp → Bool) → List Line → List Arg
 operands kind [] = []
 operands kind (l ∷ ls) = (if kind l.op then l.args else []) ++ operands kind ls
 
--- all arguments stand before place n
+-- all arguments are before place n
 abbrev pub AreEarlier : ℕ → List Arg → Type 0
 AreEarlier n [] = Unit {0}
 AreEarlier n (a ∷ more) = (a.line < n) × AreEarlier n more
@@ -125,7 +125,7 @@ abbrev pub GivesValue : (LineOp → Bool) → List Line → ℕ → Arg → Arg 
 GivesValue kind before s x v =
     (kind_at is_state before x.line ≡ true) × (x.negated ≡ false) × (1 ≤ sort_at before s) × (width_at before x.line ≡ sort_at before s) × (width_at before v.line ≡ sort_at before s) × (state_value kind before x.line ≡ None)
 
--- an init's value stands before its state, or is a constant line
+-- an init's value is before its state, or is a constant line
 abbrev pub InitRule : List Line → Arg → Arg → Type 0
 InitRule before x v = (v.line < x.line) ⊎ (kind_at is_constant before v.line ≡ true)
 
@@ -202,7 +202,7 @@ sort_place (l ∷ ls) w = if sort_width l.op == w then Some 0 else option_map su
 abbrev pub sort_line : ℕ → ℕ → Line
 sort_line id w = record { id = id; op = Sort w; sort = 0; args = []; symbol = None }
 
--- p is the place of a sort of width w, the first that stands there or one made now
+-- p is the place of a sort of width w, the first that is there or one made now
 abbrev pub SortIsAt : Option ℕ → List Line → ℕ → ℕ → List Line → Type 0
 SortIsAt (Some there) old w p new = (p ≡ there) × (new ≡ old)
 SortIsAt None old w p new = (p ≡ length old) × (new ≡ old ++ sort_line (length old + 1) w ∷ [])

@@ -10,7 +10,7 @@ use Rattle.btor_tree.specs.declared.lines.LineOp.{LineOp}
 use Rattle.btor_tree.specs.declared.lines.LineOp.TheVariants.{Input, State, Constant, One, Zero, Ones, Unary, Binary, Ite, Slice, Uext, Sext}
 use Rattle.btor_tree.specs.Fits.{OnOne, OnTwo, OnThree, sort_at, state_value, operands, is_init, is_next, is_bad, is_constraint, is_constant, kind_at}
 
--- what stands at the place of a line that has no word
+-- what is at the place of a line that has no word
 abbrev pub nothing : BitVector
 nothing = record { width = 1; bits = 0 }
 

@@ -11,7 +11,7 @@ use Rattle.btor_tree.specs.declared.line_places.LinePlaces.{LinePlaces}
 use Rattle.btor_tree.specs.Fits.{plain_arg}
 use Rattle.btor_tree.specs.declared.lines.LineOp.TheVariants as op
 use Rattle.word_core.specs.declared.word.TheConstants.{WIDEST}
-use Rattle.btor_tree.specs.Sharing.{is_shared, op_kind, op_number, op_second, place_alike}
+use Rattle.btor_tree.specs.Sharing.{is_shared, op_kind, op_number, op_second, place_of_equal}
 
 -- no line that is shared has more arguments
 abbrev pub IsShort : List Arg → Type 0
@@ -72,7 +72,7 @@ pub record HasPlaces (lines : List Line) (places : LinePlaces) : Type 0 where
 -- what the table has at w is the place of the sort line of width w + 1
 pub record KnowsSorts (lines : List Line) (sorts : List (Option ℕ)) : Type 0 where
   pub long : length sorts ≡ WIDEST
-  pub places : (w p : ℕ) → get_or sorts w None ≡ Some p → place_alike lines (op.Sort (suc w)) 0 [] ≡ Some p
+  pub places : (w p : ℕ) → get_or sorts w None ≡ Some p → place_of_equal lines (op.Sort (suc w)) 0 [] ≡ Some p
 
 -- the map as it is where it has a value for a key, or with the value for it where it has none
 abbrev pub EntersKey : {K : Type 0} → (K → K → Ordering) → Option ℕ → K → ℕ → BTreeMap K ℕ → BTreeMap K ℕ → Type 0

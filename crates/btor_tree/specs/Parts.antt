@@ -17,13 +17,13 @@ abbrev pub raw_lines : List ℕ → Parts
 raw_lines [] = [] ∷ []
 raw_lines (b ∷ bs) = if b == 10 then ([] ∷ raw_lines bs) else onto_line b (raw_lines bs)
 
--- how many bytes stand before the line behind n lines, each with its byte 10
+-- how many bytes are before the line behind n lines, each with its byte 10
 abbrev pub bytes_before : ℕ → Parts → ℕ
 bytes_before zero lines = 0
 bytes_before (suc n) [] = 0
 bytes_before (suc n) (line ∷ lines) = length line + 1 + bytes_before n lines
 
--- the place of a line of a text, by its number from 1 on: its first byte, or where that would stand in an empty line
+-- the place of a line of a text, by its number from 1 on: its first byte, or where that would be in an empty line
 abbrev pub line_place : List ℕ → ℕ → Place
 line_place text n = record { line = n; column = 1; offset = bytes_before (n - 1) (raw_lines text) }
 
@@ -32,7 +32,7 @@ abbrev pub clean : List ℕ → List ℕ
 clean [] = []
 clean (b ∷ bs) = if b == 59 then [] else (if b == 13 then clean bs else (b ∷ clean bs))
 
--- may a byte stand in a symbol? No tab, line end, CR, blank or `;` may.
+-- may a byte be in a symbol? No tab, line end, CR, blank or `;` may.
 abbrev pub is_symbol_byte : ℕ → Bool
 is_symbol_byte b = not ((b == 9) || ((b == 10) || ((b == 13) || ((b == 32) || (b == 59)))))
 

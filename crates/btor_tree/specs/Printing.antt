@@ -43,7 +43,7 @@ op_text (Slice high low) = codes "slice"
 op_text (Uext n) = codes "uext"
 op_text (Sext n) = codes "sext"
 
--- what stands between the word of a line and its arguments: the id of its sort, in most lines, and the digits of a constant
+-- what is between the word of a line and its arguments: the id of its sort, in most lines, and the digits of a constant
 abbrev pub sort_parts : List Line → LineOp → ℕ → Parts
 sort_parts lines (Sort w) s = codes "bitvec" ∷ decimal w ∷ []
 sort_parts lines (Constant c) s = decimal (id_at lines s) ∷ binary_digits c.width c.bits ∷ []

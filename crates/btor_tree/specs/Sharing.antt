@@ -66,17 +66,17 @@ same_args (x ∷ xs) (y ∷ ys) = same_arg x y && same_args xs ys
 same_args xs ys = false
 
 -- Does a line say this: the same word with its numbers, the same sort line, the same arguments? Its id and its symbol don't count.
-abbrev pub is_alike : LineOp → ℕ → List Arg → Line → Bool
-is_alike o sort args l = same_op o l.op && ((sort == l.sort) && same_args args l.args)
+abbrev pub is_equal_line : LineOp → ℕ → List Arg → Line → Bool
+is_equal_line o sort args l = same_op o l.op && ((sort == l.sort) && same_args args l.args)
 
 -- the place of the first line that says this
-abbrev pub place_alike : List Line → LineOp → ℕ → List Arg → Option ℕ
-place_alike [] o sort args = None
-place_alike (l ∷ ls) o sort args = if is_alike o sort args l then Some 0 else option_map suc (place_alike ls o sort args)
+abbrev pub place_of_equal : List Line → LineOp → ℕ → List Arg → Option ℕ
+place_of_equal [] o sort args = None
+place_of_equal (l ∷ ls) o sort args = if is_equal_line o sort args l then Some 0 else option_map suc (place_of_equal ls o sort args)
 
 -- the place of the line that says this, where such lines are shared
 abbrev pub standing : List Line → LineOp → ℕ → List Arg → Option ℕ
-standing lines o sort args = if is_shared o then place_alike lines o sort args else None
+standing lines o sort args = if is_shared o then place_of_equal lines o sort args else None
 
 -- the line that comes next, with the next id
 abbrev pub next_line : List Line → LineOp → ℕ → List Arg → Option (List ℕ) → Line
@@ -104,14 +104,14 @@ abbrev pub SaysAt : List Line → ℕ → LineOp → ℕ → List Arg → Type 0
 SaysAt lines p o sort args = (l : Line) × (slice_get lines p ≡ Some l) × Says o sort args l
 
 -- what grew are sorts, constants and operators alone
-abbrev pub GrowsQuietly : List Line → List Line → Type 0
-GrowsQuietly old new = (more : List Line) × (new ≡ old ++ more) × AllByRecursion (λ l. is_shared l.op ≡ true) more
+abbrev pub GrowsByShared : List Line → List Line → Type 0
+GrowsByShared old new = (more : List Line) × (new ≡ old ++ more) × AllByRecursion (λ l. is_shared l.op ≡ true) more
 
 -- no two lines that are shared say the same
-pub record HasNoTwoAlike (lines : List Line) : Type 0 where
+pub record HasNoDuplicates (lines : List Line) : Type 0 where
   pub by_places : (i j : ℕ) (l m : Line) → slice_get lines i ≡ Some l → slice_get lines j ≡ Some m → is_shared l.op ≡ true → Says m.op m.sort m.args l → i ≡ j
 
--- what one push is handed
+-- what one push gets
 pub record Push : Type 0 where
   pub op : LineOp
   pub sort : ℕ

@@ -2,7 +2,7 @@
 ghost use Rattle.std.specs.Prelude.{◌≡◌, ◌<◌, ◌≤◌, [], ◌^◌, length, Some, IfOk, OnErr};
 ghost use Rattle.btor_tree.specs.Fits.{Suits, IsWellFormed, last_id, sort_at, sort_of, width_at};
 ghost use Rattle.btor_tree.specs.LineKeys.{HasPlaces, IsShort};
-ghost use Rattle.btor_tree.specs.Sharing.{HasNoTwoAlike, place_alike, placed, pushed, standing, with_sort};
+ghost use Rattle.btor_tree.specs.Sharing.{HasNoDuplicates, place_of_equal, placed, pushed, standing, with_sort};
 ghost use Rattle.btor_tree.specs.declared.lines.Line.{Line};
 ghost use Rattle.btor_tree.specs.declared.lines.LineOp.TheVariants as op;
 
@@ -36,13 +36,13 @@ impl Model for Builder {
     ghost use Rattle.btor_tree.specs.Fits.{IsWellFormed};
     ghost use Rattle.btor_tree.specs.Held.{IsNumbered};
     ghost use Rattle.btor_tree.specs.LineKeys.{HasPlaces, KnowsSorts};
-    ghost use Rattle.btor_tree.specs.Sharing.{HasNoTwoAlike};
+    ghost use Rattle.btor_tree.specs.Sharing.{HasNoDuplicates};
 
     ghost Value = { List Line };
 
     ghost view = { λ a. a.lines.items };
 
-    ghost invariant = { λ a. IsWellFormed a.lines.items × IsNumbered a.lines.items × HasNoTwoAlike a.lines.items × HasPlaces a.lines.items a.places × KnowsSorts a.lines.items a.sorts };
+    ghost invariant = { λ a. IsWellFormed a.lines.items × IsNumbered a.lines.items × HasNoDuplicates a.lines.items × HasPlaces a.lines.items a.places × KnowsSorts a.lines.items a.sorts };
 }
 
 impl Builder {
@@ -87,7 +87,7 @@ impl Builder {
         ensures refused { OnErr result (self.new ≡ self.old) }
         ensures well_formed { IsWellFormed self.new }
         ensures numbered { last_id self.new ≡ length self.new }
-        ensures distinct { HasNoTwoAlike self.new }
+        ensures distinct { HasNoDuplicates self.new }
     {
         let place = self.lines.len() as u32;
         let line = Line {
@@ -112,7 +112,7 @@ impl Builder {
         ensures refused { OnErr result (self.new ≡ self.old) }
         ensures well_formed { IsWellFormed self.new }
         ensures numbered { last_id self.new ≡ length self.new }
-        ensures distinct { HasNoTwoAlike self.new }
+        ensures distinct { HasNoDuplicates self.new }
     {
         // A width that was asked for before needs no key.
         if let Some(place) = self.sorts[width as usize - 1] {
@@ -127,7 +127,7 @@ impl Builder {
     fn remember(&mut self, width: u32, place: u32)
         requires least { 1 ≤ width }
         requires most { width ≤ WIDEST }
-        requires there { place_alike self.old (op.Sort width) 0 [] ≡ Some place }
+        requires there { place_of_equal self.old (op.Sort width) 0 [] ≡ Some place }
         ensures { self.new ≡ self.old }
     {
         self.sorts[width as usize - 1] = Some(place);
@@ -167,7 +167,7 @@ impl Builder {
     pub fn done(self) -> Nodes
         ensures lines { result ≡ self }
         ensures well_formed { IsWellFormed self }
-        ensures distinct { HasNoTwoAlike self }
+        ensures distinct { HasNoDuplicates self }
     {
         Nodes::of_lines(self.lines)
     }

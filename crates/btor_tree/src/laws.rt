@@ -7,7 +7,7 @@ ghost use Rattle.btor_tree.specs.declared.args.Arg.{Arg};
 ghost use Rattle.word_core.specs.Words.{BitVector};
 ghost use Rattle.btor_tree.specs.Fits.{IsWellFormed};
 ghost use Rattle.btor_tree.specs.Frame.{Meets};
-ghost use Rattle.btor_tree.specs.Sharing.{is_shared, pushed, SaysAt, GrowsQuietly, HasNoTwoAlike, Push, PushFits, PushHasWidth, PushIsMet, built};
+ghost use Rattle.btor_tree.specs.Sharing.{is_shared, pushed, SaysAt, GrowsByShared, HasNoDuplicates, Push, PushFits, PushHasWidth, PushIsMet, built};
 ghost use Rattle.btor_tree.specs.Resolving.{Fault};
 ghost use Rattle.btor_tree.specs.Texts.{SpellsLines, RefusesText};
 ghost use Rattle.btor_tree.specs.Printing.{printed};
@@ -43,16 +43,16 @@ pub fn says_what_was_pushed()
 {}
 
 /// Proves that a push of a sort, a constant or an operator adds no line of another kind.
-pub fn grows_quietly()
-    ensures { (lines : List Line) (op : LineOp) (sort : ℕ) (args : List Arg) (symbol : Option (List ℕ)) → is_shared op ≡ true → GrowsQuietly lines (pushed lines op sort args symbol).0 }
+pub fn grows_by_shared()
+    ensures { (lines : List Line) (op : LineOp) (sort : ℕ) (args : List Arg) (symbol : Option (List ℕ)) → is_shared op ≡ true → GrowsByShared lines (pushed lines op sort args symbol).0 }
 {}
 
 /// Proves that in lines built from scratch by pushes, no two shared lines have the same content.
 ///
 /// A push keeps this property.
-pub fn no_two_alike()
-    ensures built { (pushes : List Push) → HasNoTwoAlike (built [] pushes) }
-    ensures kept { (lines : List Line) (op : LineOp) (sort : ℕ) (args : List Arg) (symbol : Option (List ℕ)) → HasNoTwoAlike lines → HasNoTwoAlike (pushed lines op sort args symbol).0 }
+pub fn no_duplicates()
+    ensures built { (pushes : List Push) → HasNoDuplicates (built [] pushes) }
+    ensures kept { (lines : List Line) (op : LineOp) (sort : ℕ) (args : List Arg) (symbol : Option (List ℕ)) → HasNoDuplicates lines → HasNoDuplicates (pushed lines op sort args symbol).0 }
 {}
 
 /// Proves that a push to lines with the ids 1, 2, 3 and so on gives well-formed lines with such ids.

@@ -1,7 +1,7 @@
 // The content of a line, as a key of an ordered map.
 ghost use Rattle.std.specs.Prelude.{◌≡◌, ◌<◌, ◌+◌, ◌*◌, ◌^◌, slice_index_or};
 ghost use Rattle.btor_tree.specs.Fits.{plain_arg};
-ghost use Rattle.btor_tree.specs.Sharing.{is_alike, is_shared, op_kind, op_number, op_second, same_op};
+ghost use Rattle.btor_tree.specs.Sharing.{is_equal_line, is_shared, op_kind, op_number, op_second, same_op};
 ghost use Rattle.btor_tree.specs.LineKeys as spec;
 
 use crate::args::{Arg, Args, plain_arg};
@@ -53,8 +53,8 @@ pub fn slot_of(args: &Args) -> usize
 }
 
 /// Returns whether the lines have the same content.
-pub fn is_alike(line: &Line, other: &Line) -> bool
-    ensures { result ≡ is_alike line.now.op line.now.sort line.now.args other.now }
+pub fn is_equal_line(line: &Line, other: &Line) -> bool
+    ensures { result ≡ is_equal_line line.now.op line.now.sort line.now.args other.now }
 {
     line.sort == other.sort && line.args.is_same(&other.args) && is_same_op(&line.op, &other.op)
 }

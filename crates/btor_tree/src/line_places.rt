@@ -6,7 +6,7 @@ ghost use Rattle.btor_tree.specs.LineKeys.{EntersKey, HasPlaces, IsShort};
 ghost use Rattle.btor_tree.specs.Sharing.{is_shared, placed, standing};
 ghost use Rattle.btor_tree.specs.declared.lines.Line.{Line};
 
-use crate::line_key::{LineKey, is_alike, line_key, slot_of};
+use crate::line_key::{LineKey, is_equal_line, line_key, slot_of};
 use crate::lines::Line;
 use std::alloc::Global;
 use std::cmp::Ord;
@@ -124,7 +124,7 @@ pub fn enter(places: &mut LinePlaces, lines: &[Line], line: &Line) -> Result<Opt
             take_slot(&mut places.slots, slot, place)?;
             Ok(None)
         }
-        Some(there) => if is_alike(line, &lines[there as usize]) {
+        Some(there) => if is_equal_line(line, &lines[there as usize]) {
             Ok(Some(there))
         } else {
             enter_key(

@@ -121,7 +121,7 @@ part_on sizes widths at few does (s ∷ ss) stated low rest w rises under h =
     subst (λ (x : List ℕ). Reads sizes (at stated) (raw_lines x) w) (sym (append_assoc (statement_line s) (flat_map statement_line ss) rest))
     (statement_on sizes (at stated) (at (stated ++ s ∷ [])) s (flat_map statement_line ss ++ rest) w small_index rises.1.1 (does stated (stated ++ s ∷ []) s.index s.value ok) more)
 
--- where the reading stands in a part of a frame
+-- where the reading is in a part of a frame
 abbrev in_states : ℕ → List Frame → List Stated → Reading
 in_states bad fs states = record { phase = phase.States; bad = bad; frames = fs; states = states; inputs = [] }
 

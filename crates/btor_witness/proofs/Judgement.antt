@@ -28,7 +28,7 @@ use Rattle.btor_witness.proofs.Statements.{value_all, value_once, all_from}
 use Rattle.btor_witness.proofs.Places.{place_there, state_place, width_by_number}
 use Rattle.btor_witness.proofs.Tables.{length_widths}
 
--- the words that are handed in are the stated ones
+-- the words that are supplied are the stated ones
 pub hands : (lines : List Line) (f : Frame) (inputs free : List BitVector) → HoldsStated (widths_of is_input lines) f.inputs inputs → HoldsStated (widths_of is_state lines) f.states free → SuppliesStated lines (statement_of f) inputs free
 hands lines f inputs free h k =
     record {

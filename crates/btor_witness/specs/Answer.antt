@@ -35,12 +35,12 @@ abbrev pub IsRefused : List Line → List ℕ → End → Type 0
 IsRefused lines text (Bad refusal) = RefusesWitness lines text refusal.kind refusal.place.line × (refusal.place ≡ line_place text refusal.place.line)
 IsRefused lines text NoMemory = Unit {0}
 
--- what a reader is seen as: what it reads against, and where it stands
+-- what a reader is seen as: what it reads against, and where it is
 pub record ReaderState : Type 0 where
   pub sizes : Sizes
   pub reading : Reading
 
--- one step of a reader that stands here behind it: `true` at the end of the witness
+-- one step of a reader that is here behind it: `true` at the end of the witness
 abbrev pub Steps : Next → Reading → Result Bool LineEnd → Type 0
 Steps next new (Ok false) = next ≡ moves new
 Steps next new (Ok true) = next ≡ done (record { bad = new.bad; frames = new.frames })

@@ -57,8 +57,8 @@ with_stated put (Ok stated) = moves (put stated)
 with_stated put (Err kind) = bad kind
 
 -- What a line of this shape does in this phase: `sat` comes first, and then the number of the bad line, in whose place no justice
--- property may stand; the states of a frame stand before its inputs, a state or an input belongs to the heading that it stands
--- behind, and the end stands behind at least one frame.
+-- property may come; the states of a frame are before its inputs, a state or an input belongs to the heading that it is
+-- behind, and the end is behind at least one frame.
 abbrev pub step_in : Sizes → Shape → Phase → Reading → Next
 step_in sizes Sat phase.Start r = moves (record r { phase = phase.Property })
 step_in sizes (Property n) phase.Property r = if nat_lt n sizes.bads then moves (record r { phase = phase.Heading; bad = n }) else bad (X 2)

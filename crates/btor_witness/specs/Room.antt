@@ -40,7 +40,7 @@ pub record HoldsStated (widths : List ℕ) (stated : List Stated) (words : List 
 pub record AreWidths (widths : List ℕ) : Type 0 where
   pub by_index : (k w : ℕ) → slice_get widths k ≡ Some w → (1 ≤ w) × (w ≤ WIDEST)
 
--- the places of the lines of a kind, in order, where the first line stands at place n
+-- the places of the lines of a kind, in order, where the first line is at place n
 abbrev pub places_in : ℕ → (LineOp → Bool) → List Line → List ℕ
 places_in n kind [] = []
 places_in n kind (l ∷ ls) = if kind l.op then (n ∷ places_in (suc n) kind ls) else places_in (suc n) kind ls

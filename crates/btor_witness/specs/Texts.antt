@@ -11,13 +11,13 @@ use Rattle.btor_witness.specs.Sizes.{Sizes, sizes_of, most_bytes}
 use Rattle.btor_witness.specs.Shapes.{Spells, shape_of, is_passed}
 use Rattle.btor_witness.specs.Reading.{Reading, begin, Next, nothing, moves, done, bad, step}
 
--- What the parts of a line do where the reading stands here.
+-- What the parts of a line do where the reading is here.
 pub data IsNext : Sizes → Reading → Parts → Next → Type 0 where
   passed : {sizes : Sizes} {r : Reading} {ps : Parts} → is_passed ps ≡ true → IsNext sizes r ps nothing
   spelled : {sizes : Sizes} {r : Reading} {ps : Parts} (shape : Shape) → is_passed ps ≡ false → Spells shape ps → IsNext sizes r ps (step sizes r shape)
   shapeless : {sizes : Sizes} {r : Reading} {ps : Parts} → is_passed ps ≡ false → ((shape : Shape) → Spells shape ps → ⊥) → IsNext sizes r ps (bad (X 1))
 
--- From here on the lines spell the witness. What stands behind its end is left unread.
+-- From here on the lines spell the witness. What is behind its end is left unread.
 pub data Reads : Sizes → Reading → Parts → Witness → Type 0 where
   blank : {sizes : Sizes} {r : Reading} {raw : List ℕ} {raws : Parts} {w : Witness} → IsNext sizes r (line_parts raw) nothing → Reads sizes r raws w → Reads sizes r (raw ∷ raws) w
   line : {sizes : Sizes} {r : Reading} {raw : List ℕ} {raws : Parts} {w : Witness} (next : Reading)

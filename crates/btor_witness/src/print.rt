@@ -94,7 +94,7 @@ fn one_more(number: u32) -> u64
     u64::from(number) + 1
 }
 
-// Do the statements stand in rising order?
+// Are the statements in rising order?
 fn rises(stated: &Stateds) -> bool
     ensures { result ≡ rises_from 0 stated.now }
 {

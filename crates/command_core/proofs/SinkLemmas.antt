@@ -6,7 +6,7 @@ use Rattle.std.proofs.lemmas.Grind.{flat_map-append}
 use Rattle.std.specs.Prelude.{get_or, IfErr, OnErr}
 use Rattle.std.specs.Result.{is_err}
 use Rattle.std.specs.Borrow.{Bor}
-use Rattle.text_core.specs.Outside.{grown, Rose}
+use Rattle.text_core.specs.Outside.{grown, HasNewFault}
 use Rattle.command_core.specs.Sinks.{IsPart, Puts}
 use Rattle.command_core.specs.Notes.{joined}
 
@@ -54,7 +54,7 @@ pub whole_part : (before now : Option (List ℕ)) (bytes : List ℕ) → now ≡
 whole_part before now bytes e =
     record { count = length bytes; within = omega arith; taken = e ∙ ap (grown before) (sym (take-length bytes)) }
 
--- the count rose, as the error says
-pub rose_put : {T E : Type 0} (was count later : ℕ) (r : Result T E) → is_err r ≡ true → count ≡ was → OnErr r (Rose count later) → Rose was later
-rose_put was count later (Ok x) failed same rose = absurd (cc)
-rose_put was count later (Err e) failed same rose = subst (λ n. Rose n later) same rose
+-- the count grew, as the error says
+pub faulted_put : {T E : Type 0} (was count later : ℕ) (r : Result T E) → is_err r ≡ true → count ≡ was → OnErr r (HasNewFault count later) → HasNewFault was later
+faulted_put was count later (Ok x) failed same faulted = absurd (cc)
+faulted_put was count later (Err e) failed same faulted = subst (λ n. HasNewFault n later) same faulted

@@ -6,7 +6,7 @@ use Rattle.command_core.specs.declared.answer.Answer.{Answer}
 use Rattle.command_core.specs.declared.answer.Answer.TheVariants.{Usage, Unread, Refused, SecondRefused, No, Done}
 use Rattle.command_core.specs.declared.answer.Output.{Output}
 use Rattle.command_core.specs.declared.answer.Output.TheVariants.{Text, Yes, Broken, Met}
-use Rattle.command_core.specs.Notes.{usage_line, unread_line, refused_line, refused_words, denied_line, accepted_line}
+use Rattle.command_core.specs.Notes.{usage_line, unread_line, refused_line, refused_words, rejected_line, accepted_line}
 
 abbrev pub status_of : Answer → Status
 status_of Usage = status.Usage
@@ -34,5 +34,5 @@ line_of Usage = usage_line
 line_of (Unread name) = unread_line name
 line_of (Refused refusal) = refused_line (refused_words false) refusal
 line_of (SecondRefused refusal) = refused_line (refused_words true) refusal
-line_of (No step clause) = denied_line step clause
+line_of (No step clause) = rejected_line step clause
 line_of (Done output) = []

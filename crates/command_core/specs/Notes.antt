@@ -24,7 +24,7 @@ kind_number (B n) = n
 kind_number (X n) = n
 kind_number (Y n) = n
 
--- what stands between the line and the column of a place, for kinds whose texts have places within a line
+-- what is between the line and the column of a place, for kinds whose texts have places within a line
 abbrev pub colon_text : Kind → List ℕ
 colon_text (S n) = codes ":"
 colon_text (M n) = codes ":"
@@ -67,7 +67,7 @@ no_memory_line = codes "no memory\n"
 abbrev pub unread_line : List ℕ → List ℕ
 unread_line name = codes "read fault: " ++ (name ++ codes "\n")
 
--- what stands before a refusal of the model, or of the second file
+-- what is before a refusal of the model, or of the second file
 abbrev pub refused_words : Bool → List ℕ
 refused_words false = codes "refused: "
 refused_words true = codes "second refused: "
@@ -81,8 +81,8 @@ abbrev pub refused_line : List ℕ → Refusal → List ℕ
 refused_line words refusal =
     words ++ (kind_letter refusal.kind ++ (decimal (kind_number refusal.kind) ++ (codes " " ++ (kind_name refusal.kind ++ (codes " at " ++ place_text refusal)))))
 
-abbrev pub denied_line : ℕ → Clause → List ℕ
-denied_line step clause = codes "no: step " ++ (decimal step ++ (codes ": " ++ (clause_name clause ++ codes "\n")))
+abbrev pub rejected_line : ℕ → Clause → List ℕ
+rejected_line step clause = codes "no: step " ++ (decimal step ++ (codes ": " ++ (clause_name clause ++ codes "\n")))
 
 -- what is written for what is accepted: what it is of, behind these words, and its last step
 abbrev pub accepted_line : List ℕ → List ℕ → ℕ → List ℕ

@@ -1,4 +1,4 @@
--- What stands in place of a file that isn't read whole.
+-- What is in place of a file that isn't read whole.
 use Rattle.std.specs.Prelude.{◌≡◌, ◌⊎◌, ℕ, List, length, nat_lt, Option, Some, None, Result, Ok, Err, if◌then◌else◌}
 use Rattle.text_core.specs.Outside.{Files, file_at, IsMissing, IsLonger}
 use Rattle.command_core.specs.declared.status.Status.TheVariants.{ReadFault}
@@ -18,14 +18,14 @@ abbrev pub file_within : Files → List ℕ → ℕ → Answer → Result (List 
 file_within files name limit longer = within_limit (file_at files name) name limit longer
 
 -- goes on with a file's bytes, or gives the answer in their place
-abbrev pub GoesOn : Result (List ℕ) Answer → (List ℕ → Answer → Type 0) → Answer → Type 0
-GoesOn (Ok bytes) next answer = next bytes answer
-GoesOn (Err instead) next answer = answer ≡ instead
+abbrev pub ContinuesWith : Result (List ℕ) Answer → (List ℕ → Answer → Type 0) → Answer → Type 0
+ContinuesWith (Ok bytes) next answer = next bytes answer
+ContinuesWith (Err instead) next answer = answer ≡ instead
 
--- when a call may give this answer in place of a file's bytes, where it may say that the count rose
+-- when a call may give this answer in place of a file's bytes, where it may say that the count grew
 abbrev pub Instead : Option Files → Type 0 → List ℕ → ℕ → Answer → Answer → Type 0
-Instead files rose name limit longer answer =
-    ((answer ≡ Unread name) × (rose ⊎ IsMissing files name)) ⊎ ((answer ≡ longer) × IsLonger files name limit)
+Instead files faulted name limit longer answer =
+    ((answer ≡ Unread name) × (faulted ⊎ IsMissing files name)) ⊎ ((answer ≡ longer) × IsLonger files name limit)
 
 -- a step stops for an answer of which this holds, or for want of memory
 abbrev pub StopsWith : (Answer → Type 0) → Stop → Type 0

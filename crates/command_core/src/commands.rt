@@ -1,10 +1,10 @@
 // The skeleton of a command: it reads files within their limits and computes the answer from their bytes.
 ghost use Rattle.std.specs.Prelude.{◌≡◌, ◌≤◌, [], ◌∷◌, ℕ, List, length, IfOk, IfErr, IsErrAnd};
-ghost use Rattle.text_core.specs.Outside.{Files, Rose};
+ghost use Rattle.text_core.specs.Outside.{Files, HasNewFault};
 ghost use Rattle.command_core.specs.declared.answer.Answer.{Answer};
 ghost use Rattle.command_core.specs.Giving.{MayGive};
 ghost use Rattle.command_core.specs.Keeping.{KeepsShelf};
-ghost use Rattle.command_core.specs.Reading.{GoesOn, SaysRead, StopsUnread, StopsWith, file_within};
+ghost use Rattle.command_core.specs.Reading.{ContinuesWith, SaysRead, StopsUnread, StopsWith, file_within};
 ghost use Rattle.command_core.specs.Texts.{text_answer};
 
 use crate::answer::{Answer, Output, Stop};
@@ -78,8 +78,8 @@ pub trait FirstFile {
         shelf: &mut F,
     ) -> Result<Answer, Stop>
         requires { length bytes.now ≤ most }
-        ensures answer { IfOk result (MayGive (F.files shelf.old) (second.now ∷ []) (λ files. defines self.now files second.now bytes.now) (Rose (F.faults shelf.old) (F.faults shelf.new))) }
-        ensures stop { IfErr result (StopsWith (MayGive (F.files shelf.old) (second.now ∷ []) (λ files. defines self.now files second.now bytes.now) (Rose (F.faults shelf.old) (F.faults shelf.new)))) }
+        ensures answer { IfOk result (MayGive (F.files shelf.old) (second.now ∷ []) (λ files. defines self.now files second.now bytes.now) (HasNewFault (F.faults shelf.old) (F.faults shelf.new))) }
+        ensures stop { IfErr result (StopsWith (MayGive (F.files shelf.old) (second.now ∷ []) (λ files. defines self.now files second.now bytes.now) (HasNewFault (F.faults shelf.old) (F.faults shelf.new)))) }
         ensures shelf { KeepsShelf (F.files shelf.old) (F.files shelf.new) (F.faults shelf.old) (F.faults shelf.new) (F.begun shelf.old) (F.begun shelf.new) (second.now ∷ []) (IsErrAnd result StopsUnread) };
 
     /// The answer to a longer file implies that the file was read.
@@ -94,8 +94,8 @@ pub fn answer_file<F: Shelf, T: LastFile>(
     shelf: &mut F,
 ) -> Result<Answer, Stop>
     requires { T.fits command.now }
-    ensures answer { IfOk result (MayGive (F.files shelf.old) (name.now ∷ []) (λ files. GoesOn (file_within files name.now T.most T.longer) (T.defines command.now)) (Rose (F.faults shelf.old) (F.faults shelf.new))) }
-    ensures stop { IfErr result (StopsWith (MayGive (F.files shelf.old) (name.now ∷ []) (λ files. GoesOn (file_within files name.now T.most T.longer) (T.defines command.now)) (Rose (F.faults shelf.old) (F.faults shelf.new)))) }
+    ensures answer { IfOk result (MayGive (F.files shelf.old) (name.now ∷ []) (λ files. ContinuesWith (file_within files name.now T.most T.longer) (T.defines command.now)) (HasNewFault (F.faults shelf.old) (F.faults shelf.new))) }
+    ensures stop { IfErr result (StopsWith (MayGive (F.files shelf.old) (name.now ∷ []) (λ files. ContinuesWith (file_within files name.now T.most T.longer) (T.defines command.now)) (HasNewFault (F.faults shelf.old) (F.faults shelf.new)))) }
     ensures shelf { KeepsShelf (F.files shelf.old) (F.files shelf.new) (F.faults shelf.old) (F.faults shelf.new) (F.begun shelf.old) (F.begun shelf.new) (name.now ∷ []) (IsErrAnd result StopsUnread) }
 {
     let bytes = read_file(alloc, shelf, name, command.limit(), command.too_long())?;
@@ -110,8 +110,8 @@ pub fn answer_files<F: Shelf, T: FirstFile>(
     command: &T,
     shelf: &mut F,
 ) -> Result<Answer, Stop>
-    ensures answer { IfOk result (MayGive (F.files shelf.old) (model.now ∷ second.now ∷ []) (λ files. GoesOn (file_within files model.now T.most T.longer) (T.defines command.now files second.now)) (Rose (F.faults shelf.old) (F.faults shelf.new))) }
-    ensures stop { IfErr result (StopsWith (MayGive (F.files shelf.old) (model.now ∷ second.now ∷ []) (λ files. GoesOn (file_within files model.now T.most T.longer) (T.defines command.now files second.now)) (Rose (F.faults shelf.old) (F.faults shelf.new)))) }
+    ensures answer { IfOk result (MayGive (F.files shelf.old) (model.now ∷ second.now ∷ []) (λ files. ContinuesWith (file_within files model.now T.most T.longer) (T.defines command.now files second.now)) (HasNewFault (F.faults shelf.old) (F.faults shelf.new))) }
+    ensures stop { IfErr result (StopsWith (MayGive (F.files shelf.old) (model.now ∷ second.now ∷ []) (λ files. ContinuesWith (file_within files model.now T.most T.longer) (T.defines command.now files second.now)) (HasNewFault (F.faults shelf.old) (F.faults shelf.new)))) }
     ensures shelf { KeepsShelf (F.files shelf.old) (F.files shelf.new) (F.faults shelf.old) (F.faults shelf.new) (F.begun shelf.old) (F.begun shelf.new) (model.now ∷ second.now ∷ []) (IsErrAnd result StopsUnread) }
 {
     let bytes = read_file(alloc, shelf, model, command.limit(), command.too_long())?;

@@ -1,6 +1,6 @@
 // Reads of the files that a command names.
 ghost use Rattle.std.specs.Prelude.{◌≡◌, ◌<◌, ◌≤◌, IfOk, IfErr, IsErrAnd, vec_len};
-ghost use Rattle.text_core.specs.Outside.{BeginsOnly, IsFile, Rose};
+ghost use Rattle.text_core.specs.Outside.{BeginsOnly, IsFile, HasNewFault};
 ghost use Rattle.command_core.specs.Reading.{Instead, StopsUnread, StopsWith};
 
 use crate::answer::{Answer, Stop, unread_stop};
@@ -19,7 +19,7 @@ pub fn read_file<F: Shelf>(
 ) -> Result<Vec<u8>, Stop>
     ensures bytes { IfOk result (λ bytes. IsFile (F.files shelf.old) name.now bytes.items) }
     ensures within { IfOk result (λ bytes. vec_len bytes ≤ limit) }
-    ensures stop { IfErr result (StopsWith (Instead (F.files shelf.old) (Rose (F.faults shelf.old) (F.faults shelf.new)) name.now limit longer)) }
+    ensures stop { IfErr result (StopsWith (Instead (F.files shelf.old) (HasNewFault (F.faults shelf.old) (F.faults shelf.new)) name.now limit longer)) }
     ensures fault { F.faults shelf.old < F.faults shelf.new → IsErrAnd result (λ stop. StopsUnread stop) }
     ensures later { F.faults shelf.old ≤ F.faults shelf.new }
     ensures files { F.files shelf.new ≡ F.files shelf.old }

@@ -1,9 +1,9 @@
 // Writes the output, and the line that says how a run ended. None of it allocates.
 ghost use Rattle.std.specs.Prelude.{◌≡◌, ◌≢◌, ◌⊎◌, ◌<◌, OnErr, decimal};
-ghost use Rattle.text_core.specs.Outside.{grown, Rose};
+ghost use Rattle.text_core.specs.Outside.{grown, HasNewFault};
 ghost use Rattle.command_core.specs.Answers.{line_of, output_text, status_of, text_of};
-ghost use Rattle.command_core.specs.Sinks.{IsPart, Noted, Puts, Took, ended};
-ghost use Rattle.command_core.specs.Notes.{accepted_line, clause_name, colon_text, column_text, denied_line, joined, kind_letter, kind_number, refused_line, refused_words, unread_line, write_fault_line};
+ghost use Rattle.command_core.specs.Sinks.{IsPart, Noted, Puts, WroteLine, ended};
+ghost use Rattle.command_core.specs.Notes.{accepted_line, clause_name, colon_text, column_text, rejected_line, joined, kind_letter, kind_number, refused_line, refused_words, unread_line, write_fault_line};
 
 use crate::answer::{Answer, Output};
 use crate::status::Status;
@@ -21,10 +21,10 @@ pub fn deliver<K: Sink, N: Sink>(answer: &Answer, out: &mut K, notes: &mut N) ->
     // Either `out` failed, and `notes` took the line that says so, or a prefix of it where it failed too; or
     // `notes` failed, and `out` is unchanged.
     ensures write_fault { result ≡ Status.WriteFault
-        → (Rose (K.faults out.old) (K.faults out.new) × Took (N.taken notes.old) (N.taken notes.new) (N.faults notes.old) (N.faults notes.new) write_fault_line)
-        ⊎ ((K.taken out.new ≡ K.taken out.old) × (status_of answer.now ≢ Status.Done) × IsPart (N.taken notes.old) (N.taken notes.new) (line_of answer.now) × Rose (N.faults notes.old) (N.faults notes.new)) }
-    ensures out_rose { K.faults out.old < K.faults out.new → result ≡ Status.WriteFault }
-    ensures notes_rose { N.faults notes.old < N.faults notes.new → result ≡ Status.WriteFault }
+        → (HasNewFault (K.faults out.old) (K.faults out.new) × WroteLine (N.taken notes.old) (N.taken notes.new) (N.faults notes.old) (N.faults notes.new) write_fault_line)
+        ⊎ ((K.taken out.new ≡ K.taken out.old) × (status_of answer.now ≢ Status.Done) × IsPart (N.taken notes.old) (N.taken notes.new) (line_of answer.now) × HasNewFault (N.faults notes.old) (N.faults notes.new)) }
+    ensures out_faulted { K.faults out.old < K.faults out.new → result ≡ Status.WriteFault }
+    ensures notes_faulted { N.faults notes.old < N.faults notes.new → result ≡ Status.WriteFault }
 {
     match put_text(answer, out) {
         Ok(()) => ended(put_line(answer, notes), answer.status()),
@@ -170,7 +170,7 @@ fn column_of(kind: Kind, digits: &[u8]) -> &[u8]
 
 // Writes the line with the step and the clause that fails.
 fn put_clause<N: Sink>(step: u32, clause: Clause, notes: &mut N) -> Result<(), SinkFault>
-    ensures { Puts (N.taken notes.old) (N.taken notes.new) (N.faults notes.old) (N.faults notes.new) (denied_line step clause) result }
+    ensures { Puts (N.taken notes.old) (N.taken notes.new) (N.faults notes.old) (N.faults notes.new) (rejected_line step clause) result }
 {
     let mut digits = Buffer::new();
     let pieces = [

@@ -21,17 +21,17 @@ leads g (suc n) k m = list_any (λ r. r == m || leads g n r m) (next_of g k)
 abbrev pub is_in : List ℕ → ℕ → Bool
 is_in xs x = list_any (λ y. y == x) xs
 
--- no node stands twice
+-- no node occurs twice
 abbrev pub are_distinct : List ℕ → Bool
 are_distinct [] = true
 are_distinct (k ∷ ks) = not (is_in ks k) && are_distinct ks
 
--- behind those that stand before, each node stands after the nodes to which it leads
+-- behind those that are before, each node is after the nodes to which it leads
 abbrev pub falls_from : NodeLists → List ℕ → List ℕ → Bool
 falls_from g before [] = true
 falls_from g before (k ∷ ks) = list_all (is_in before) (next_of g k) && falls_from g (before ++ k ∷ []) ks
 
--- an order of the nodes that has each once, and in which each stands after those to which it leads
+-- an order of the nodes that has each once, and in which each is after those to which it leads
 pub record IsSorted (g : NodeLists) (order : List ℕ) : Type 0 where
   pub within : list_all (λ k. nat_lt k (length g)) order ≡ true
   pub whole : (k : ℕ) → k < length g → is_in order k ≡ true

@@ -20,7 +20,7 @@ struct Node {
     low: usize,
 }
 
-// The search, which stands at the last node of its path.
+// The search, which is at the last node of its path.
 #[derive(Drop)]
 struct Search {
     nodes: Vec<Node>,
@@ -110,7 +110,7 @@ impl Search {
         Ok(())
     }
 
-    // Removes a complete component from the stack. Its first node stands at this place.
+    // Removes a complete component from the stack. Its first node is at this place.
     fn complete(&mut self, place: usize, rank: usize)
         requires { IsSearch self.old }
         ensures { Keeps self.old self.new }

@@ -4,7 +4,7 @@ use Rattle.std.specs.Prelude.{codes, is_some, ◌||◌}
 use Rattle.std.specs.Result.{IsErr}
 use Rattle.std.proofs.Math.Seq.{drop-cons}
 use Rattle.std.proofs.lemmas.List.{length-drop}
-use Rattle.text_core.specs.Outside.{grown, Rose}
+use Rattle.text_core.specs.Outside.{grown, HasNewFault}
 use Rattle.command_core.specs.Sinks.{IsPart, Puts}
 use Rattle.explain_core.specs.Notes.{note_of}
 use Rattle.explain_core.specs.Explaining.{File, end_before, explained_lines, is_explained, line_at_text}
@@ -46,13 +46,13 @@ line_more model second lines i before mid now within w next =
 -- a front of one line more was written
 pub line_fails : {T E : Type 0} (r : Result T E) (model second : File) (lines : List (List ℕ)) (i : ℕ) (before mid now : Option (List ℕ)) (c d e : ℕ) → i < length lines → IsErr r
     → Wrote before mid (explained_lines model second (drop i lines)) (explained_lines model second lines) → d ≡ c
-    → IsPart mid now (line_at_text model second lines i) × Rose d e → Puts before now c e (explained_lines model second lines) r
+    → IsPart mid now (line_at_text model second lines i) × HasNewFault d e → Puts before now c e (explained_lines model second lines) r
 line_fails r model second lines i before mid now c d e within failed w same p =
     let behind : IsPart mid now (explained_lines model second (drop i lines)) =
     subst (λ (xs : List ℕ). IsPart mid now xs) (sym (text_at model second lines i within))
     (part_front mid now (line_at_text model second lines i) (explained_lines model second (drop (i + 1) lines)) p.0) in
     put_failed r before now c e (explained_lines model second lines) failed
-    (subst (λ (xs : List ℕ). IsPart before now xs) w.is (part_then before mid now w.done (explained_lines model second (drop i lines)) w.taken behind), subst (λ (n : ℕ). Rose n e) same p.1)
+    (subst (λ (xs : List ℕ). IsPart before now xs) w.is (part_then before mid now w.done (explained_lines model second (drop i lines)) w.taken behind), subst (λ (n : ℕ). HasNewFault n e) same p.1)
 
 -- whether one of the lines from the number on is a note
 pub explained_at : (lines : List (List ℕ)) (i : ℕ) → i < length lines → is_explained (drop i lines) ≡ (is_some (note_of (get_or lines i [])) || is_explained (drop (i + 1) lines))

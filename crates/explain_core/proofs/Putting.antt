@@ -4,7 +4,7 @@ use Rattle.std.specs.Prelude.{min, nat_eq, codes, replicate}
 use Rattle.std.proofs.Math.Seq.{take-append-add}
 use Rattle.std.proofs.lemmas.List.{append-nil, take-append-le, take-replicate}
 use Rattle.std.specs.Result.{IsErr}
-use Rattle.text_core.specs.Outside.{grown, Rose}
+use Rattle.text_core.specs.Outside.{grown, HasNewFault}
 use Rattle.command_core.specs.Sinks.{IsPart, Puts}
 use Rattle.explain_core.specs.Lines.{window_start, window_end}
 use Rattle.explain_core.specs.Messages.{blank_of, caret_text, excerpt_text, marks_of, shown_text}
@@ -29,7 +29,7 @@ part_then before mid now xs ys first p = let fits : p.count ≤ length ys = p.wi
 pub puts_then : {T E : Type 0} (r : Result T E) (before mid now : Option (List ℕ)) (c d e : ℕ) (xs ys : List ℕ) → mid ≡ grown before xs → d ≡ c → Puts mid now d e ys r
     → Puts before now c e (xs ++ ys) r
 puts_then (Ok x) before mid now c d e xs ys first same next = (then_grown before mid now xs ys first next.0, next.1 ∙ same)
-puts_then (Err x) before mid now c d e xs ys first same next = (part_then before mid now xs ys first next.0, subst (λ n. Rose n e) same next.1)
+puts_then (Err x) before mid now c d e xs ys first same next = (part_then before mid now xs ys first next.0, subst (λ n. HasNewFault n e) same next.1)
 
 pub puts_next : {T E : Type 0} (r : Result T E) (before mid now : Option (List ℕ)) (c d e : ℕ) (xs ys : List ℕ) → (mid ≡ grown before xs) × (d ≡ c) → Puts mid now d e ys r
     → Puts before now c e (xs ++ ys) r
@@ -67,11 +67,11 @@ excerpt_front before now line at marked start end s f p =
     (subst (λ (n : ℕ). IsPart before now (shown_text line (window_start (length line) at) n)) f (subst (λ (n : ℕ). IsPart before now (shown_text line n end)) s p))
 
 -- a call that failed
-pub put_failed : {T E : Type 0} (r : Result T E) (before now : Option (List ℕ)) (c d : ℕ) (bytes : List ℕ) → IsErr r → IsPart before now bytes × Rose c d → Puts before now c d bytes r
+pub put_failed : {T E : Type 0} (r : Result T E) (before now : Option (List ℕ)) (c d : ℕ) (bytes : List ℕ) → IsErr r → IsPart before now bytes × HasNewFault c d → Puts before now c d bytes r
 put_failed (Ok x) before now c d bytes failed p = cc
 put_failed (Err x) before now c d bytes failed p = p
 
-pub part_fails : (before now : Option (List ℕ)) (c d : ℕ) (xs ys : List ℕ) → IsPart before now xs × Rose c d → IsPart before now (xs ++ ys) × Rose c d
+pub part_fails : (before now : Option (List ℕ)) (c d : ℕ) (xs ys : List ℕ) → IsPart before now xs × HasNewFault c d → IsPart before now (xs ++ ys) × HasNewFault c d
 part_fails before now c d xs ys p = (part_front before now xs ys p.0, p.1)
 
 -- a piece alone, and the next

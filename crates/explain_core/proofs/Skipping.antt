@@ -44,7 +44,7 @@ token_front at last b bs bare dark =
     ∙ ap (λ v. last_token (smv_token_length (b ∷ bs) - 1) (at + 1) (cond v (Some (at, at + smv_token_length (b ∷ bs))) last) bs) dark
     ∙ token_moves (smv_token_length (b ∷ bs)) at (Some (at, at + smv_token_length (b ∷ bs))) b bs some within
 
--- what stands behind a token
+-- what is behind a token
 pub token_step : (front : List ℕ) (at : ℕ) (last : Option (ℕ × ℕ)) (b : ℕ) (bs : List ℕ) → drop at front ≡ b ∷ bs → starts_with nat_eq (drop at front) (codes "--") ≡ false → nat_le 33 b ≡ true
     → last_token 0 (at + smv_token_length (drop at front)) (Some (at, at + smv_token_length (drop at front))) (drop (at + smv_token_length (drop at front)) front)
     ≡ last_token 0 at last (drop at front)
@@ -76,7 +76,7 @@ operator_moves wanted (suc k) at depth b bs some within =
     let same : at + 1 + k ≡ at + suc k = omega arith in
     ap (λ m. operator_in wanted m (at + 1) depth bs) e ∙ operator_skip wanted k (at + 1) depth bs less ∙ ap (λ m. operator_in wanted 0 m depth (drop k bs)) same
 
--- no wanted operator stands here
+-- no wanted operator is here
 abbrev pub misses : List (List ℕ) → ℕ → ℕ → List ℕ → Bool
 misses wanted at depth xs = (depth == 0) && (not (at == 0) && is_among wanted (take (smv_token_length xs) xs))
 
@@ -105,7 +105,7 @@ operator_goes wanted rest slice at n depth next within same size miss bare step 
     ∙ sym here
     ∙ ap (λ xs. operator_in wanted 0 at depth xs) same
 
--- an operator stands here
+-- an operator is here
 pub operator_hits : (wanted : List (List ℕ)) (rest slice token : List ℕ) (at n depth : ℕ) → at < length rest → slice ≡ drop at rest → n ≡ smv_token_length slice
     → token ≡ take n slice → depth ≡ 0 → 0 < at → is_among wanted token ≡ true → Some (at, at + n) ≡ operator_in wanted 0 at depth (drop at rest)
 operator_hits wanted rest slice token at n depth within same size is level some among =
@@ -135,7 +135,7 @@ operator_ends wanted rest slice at depth within same miss closing level =
     )
     ∙ ap (λ xs. operator_in wanted 0 at depth xs) (sym (drop-cons rest at 0 within))
 
--- why no operator stands here: a bracket is open, it is the first byte, or the token is none of them
+-- why no operator is here: a bracket is open, it is the first byte, or the token is none of them
 pub misses_open : (wanted : List (List ℕ)) (at depth : ℕ) (xs : List ℕ) → 0 < depth → misses wanted at depth xs ≡ false
 misses_open wanted at depth xs some = let off : (depth == 0) ≡ false = grind (arith, nat_tests) in ap (λ v. v && (not (at == 0) && is_among wanted (take (smv_token_length xs) xs))) off
 

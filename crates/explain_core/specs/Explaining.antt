@@ -69,7 +69,7 @@ below_text lines line refusal =
     excerpt_text line (refusal.place.column - 1) (marked refusal.kind (length (token_of refusal.kind (rest_of line refusal))))
     ++ rest_text refusal.kind (token_of refusal.kind (rest_of line refusal)) (near_of refusal.kind lines refusal.place (rest_of line refusal))
 
--- a refusal whose place stands on this line
+-- a refusal whose place is on this line
 abbrev pub found_text : List ℕ → List (List ℕ) → List ℕ → TheRefusal → List ℕ
 found_text file lines line refusal =
     header_text file refusal (token_of refusal.kind (rest_of line refusal)) (advice_of refusal.kind).0 ++ below_text lines line refusal

@@ -47,7 +47,7 @@ opens b = (b == 40) || ((b == 91) || (b == 123))
 abbrev pub closes : ℕ → Bool
 closes b = (b == 41) || ((b == 93) || ((b == 125) || (b == 59)))
 
--- where the first of these operators begins and ends that stands in no bracket, behind the first byte and before a bracket that
+-- where the first of these operators begins and ends that is in no bracket, behind the first byte and before a bracket that
 -- closes or a `;`; so many bytes of a token are left, the next byte has this number, and so many brackets stand open
 abbrev pub operator_in : List (List ℕ) → ℕ → ℕ → ℕ → List ℕ → Option (ℕ × ℕ)
 operator_in wanted left at depth [] = None

@@ -8,7 +8,7 @@ use Rattle.text_core.specs.declared.place.Kind.TheVariants.{S, M, B, X, Y}
 use Rattle.text_core.specs.declared.place.Place.{Place}
 use Rattle.text_core.specs.declared.place.Refusal.{Refusal}
 use Rattle.text_core.specs.declared.verdict.Clause.{Clause}
-use Rattle.command_core.specs.Notes.{clause_name, colon_text, column_text, denied_line, kind_letter, kind_number, refused_line, refused_words, usage_line, write_fault_line}
+use Rattle.command_core.specs.Notes.{clause_name, colon_text, column_text, rejected_line, kind_letter, kind_number, refused_line, refused_words, usage_line, write_fault_line}
 use Rattle.command_core.specs.Numbers.{invariant_number}
 use Rattle.explain_core.specs.declared.notes.Note.{Note}
 use Rattle.explain_core.specs.declared.notes.Note.TheVariants.{Refused, SecondRefused, No, Usage, Unread, WriteFault, NoMemory}
@@ -18,13 +18,13 @@ use Rattle.explain_core.specs.declared.notes.TheConstants.{CLAUSES}
 abbrev pub IsNoted : Note → List ℕ → Type 0
 IsNoted (Refused refusal) line = refused_line (refused_words false) refusal ≡ line ++ 10 ∷ []
 IsNoted (SecondRefused refusal) line = refused_line (refused_words true) refusal ≡ line ++ 10 ∷ []
-IsNoted (No step clause) line = denied_line step clause ≡ line ++ 10 ∷ []
+IsNoted (No step clause) line = rejected_line step clause ≡ line ++ 10 ∷ []
 IsNoted Usage line = usage_line ≡ line ++ 10 ∷ []
 IsNoted Unread line = starts_with nat_eq line (codes "read fault: ") ≡ true
 IsNoted WriteFault line = write_fault_line ≡ line ++ 10 ∷ []
 IsNoted NoMemory line = line ≡ codes "no memory"
 
--- what stands behind the words, where the text begins with them
+-- what is behind the words, where the text begins with them
 abbrev pub behind : List ℕ → List ℕ → Option (List ℕ)
 behind words text = if starts_with nat_eq text words then Some (drop (length words) text) else None
 
@@ -80,12 +80,12 @@ noted_refusal refusal rest = if bytes_eq rest (refusal_words refusal) then Some 
 abbrev pub refusal_with : Kind → Place → Refusal
 refusal_with kind place = record { kind = kind; place = place }
 
--- the refusal of the kind, whose number ends at this byte; a blank, the name and ` at ` stand before the place
+-- the refusal of the kind, whose number ends at this byte; a blank, the name and ` at ` are before the place
 abbrev pub refusal_at : Kind → ℕ → List ℕ → Option Refusal
 refusal_at kind end rest =
     option_and_then (λ place. noted_refusal (refusal_with kind place) rest) (place_in (drop (length (kind_name kind) + 5) (drop end rest)))
 
--- the refusal that is written so: its kind stands before the first blank
+-- the refusal that is written so: its kind is before the first blank
 abbrev pub refusal_in : List ℕ → Option Refusal
 refusal_in rest = option_and_then (λ end. option_and_then (λ kind. refusal_at kind end rest) (kind_in (take end rest))) (place_of_byte 32 rest)
 
@@ -117,13 +117,13 @@ plain_note line =
     else (if bytes_eq line (codes "write fault") then Some WriteFault
     else (if bytes_eq line (codes "no memory") then Some NoMemory else None)))
 
-abbrev pub denied_note : List ℕ → Option (List ℕ) → Option Note
-denied_note line (Some rest) = option_map (λ denial. No denial.0 denial.1) (denial_in rest)
-denied_note line None = plain_note line
+abbrev pub rejected_note : List ℕ → Option (List ℕ) → Option Note
+rejected_note line (Some rest) = option_map (λ denial. No denial.0 denial.1) (denial_in rest)
+rejected_note line None = plain_note line
 
 abbrev pub second_note : List ℕ → Option (List ℕ) → Option Note
 second_note line (Some rest) = option_map (λ refusal. SecondRefused refusal) (refusal_in rest)
-second_note line None = denied_note line (behind (codes "no: step ") line)
+second_note line None = rejected_note line (behind (codes "no: step ") line)
 
 abbrev pub first_note : List ℕ → Option (List ℕ) → Option Note
 first_note line (Some rest) = option_map (λ refusal. Refused refusal) (refusal_in rest)

@@ -28,7 +28,7 @@ pub enum Note {
 }
 
 /// Parses a line, without its line feed, as a note, or returns None for any other line.
-#[tactic(auto, using(crate::proofs::Reading::refused_is, crate::proofs::Reading::denied_is), unfolding(crate::specs::Notes::note_of))]
+#[tactic(auto, using(crate::proofs::Reading::refused_is, crate::proofs::Reading::rejected_is), unfolding(crate::specs::Notes::note_of))]
 pub fn read_note(line: &[u8]) -> Option<Note>
     ensures value { result ≡ note_of line.now }
     ensures noted { IfSome result (λ note. IsNoted note line.now) }

@@ -48,8 +48,8 @@ for_models f P (Ok x) h = λ source form weight. h source form weight
 for_models f P (Err e) h = tt
 
 -- the lines' judge says no
-pub denied : (n : ℕ) (f : FlatModel) (lines : List Line) (w : Witness) (step : ℕ) (clause : Clause) → judged_btor lines w (No step clause) → OfModels f (λ source. OfWitness n source lines w (answer.No step clause))
-denied n f lines w step clause h = λ source form weight. h
+pub rejected : (n : ℕ) (f : FlatModel) (lines : List Line) (w : Witness) (step : ℕ) (clause : Clause) → judged_btor lines w (No step clause) → OfModels f (λ source. OfWitness n source lines w (answer.No step clause))
+rejected n f lines w step clause h = λ source form weight. h
 
 -- what is answered to a witness is answered to the text that spells it
 pub of_witness : {E : Type 0} (n : ℕ) (second : List ℕ) (f : FlatModel) (lines : List Line) (w : Witness) (result : Result Answer E) → SpellsWitness lines second w → IfOk result (λ a. OfModels f (λ source. OfWitness n source lines w a))

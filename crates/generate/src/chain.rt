@@ -63,7 +63,7 @@ fn summary_text(
 }
 
 // The answer to a witness for the chain's lines.
-#[tactic(auto, using(crate::proofs::Answering::denied))]
+#[tactic(auto, using(crate::proofs::Answering::rejected))]
 fn witness_answer(
     alloc: Global,
     n: u32,

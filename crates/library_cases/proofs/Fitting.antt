@@ -8,7 +8,7 @@ use Rattle.smv_meaning.specs.Values.{Valuation}
 use Rattle.smv_meaning.specs.Instances.{Instance}
 use Rattle.smv_meaning.specs.Runs.{domain_fits, is_fit, element_fits, values_fit, state_fits, label_fits}
 use Rattle.smv_meaning.specs.Owed.{instance_number}
-use Rattle.smv_meaning.specs.Parts.{StandsIn}
+use Rattle.smv_meaning.specs.Parts.{OccursIn}
 use Rattle.library_cases.specs.Free.{is_instance, is_free_item, is_free_element, are_free}
 
 both : (a b c d : Bool) → (a ≡ true → c ≡ true) → (b ≡ true → d ≡ true) → (a && b) ≡ true → (c && d) ≡ true
@@ -61,5 +61,5 @@ now_fits t u values b e f h = all_fit _ u values (free_in t u b e f h)
 pub inputs_fit : (t u : List Instance) (values : Valuation) (b : Bool) → t ≡ u → b ≡ are_free t → b ≡ true → IsTrue (label_fits u values)
 inputs_fit t u values b e f h = all_fit _ u values (free_in t u b e f h)
 
-pub stands : (t u : List Instance) (x : List ℕ) (i : ℕ) (e : Tree) → t ≡ u → i ≡ instance_number t x → StandsIn t i e → StandsIn u (instance_number u x) e
-stands t u x i e et n h = subst (λ (s : List Instance). StandsIn s (instance_number u x) e) et (subst (λ (k : ℕ). StandsIn t k e) (n ∙ ap (λ s. instance_number s x) et) h)
+pub stands : (t u : List Instance) (x : List ℕ) (i : ℕ) (e : Tree) → t ≡ u → i ≡ instance_number t x → OccursIn t i e → OccursIn u (instance_number u x) e
+stands t u x i e et n h = subst (λ (s : List Instance). OccursIn s (instance_number u x) e) et (subst (λ (k : ℕ). OccursIn t k e) (n ∙ ap (λ s. instance_number s x) et) h)

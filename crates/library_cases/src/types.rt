@@ -26,7 +26,7 @@ impl Scope for NoNames {
     }
 }
 
-/// Appends the type of the expression where it stands after `next(x) :=`, as a declaration writes it.
+/// Appends the type of the expression where it is after `next(x) :=`, as a declaration writes it.
 pub fn put_type_of(alloc: Global, out: &mut Answer, pieces: &[Piece]) -> Result<(), Fault> {
     let source = expression_source(alloc, piece_bytes(pieces, "text")?)?;
     match type_in(alloc, expression_of(&source)?)? {

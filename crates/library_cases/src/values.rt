@@ -5,7 +5,7 @@ ghost use Rattle.smv_text.specs.View.{plain, plain_module, plain_domain, plain_i
 ghost use Rattle.smv_meaning.specs.Instances.{instances_of};
 ghost use Rattle.smv_meaning.specs.Checked.{IsChecked};
 ghost use Rattle.smv_meaning.specs.Owed.{instance_number};
-ghost use Rattle.smv_meaning.specs.Parts.{InOne, expressions_in, StandsIn};
+ghost use Rattle.smv_meaning.specs.Parts.{InOne, expressions_in, OccursIn};
 ghost use Rattle.smv_instances.specs.View.{instance_plain};
 ghost use Rattle.smv_flatten.specs.FlatModel.{IsRead};
 ghost use Rattle.library_cases.specs.Free.{is_instance, is_free_item, is_free_element, are_free};
@@ -201,7 +201,7 @@ fn asked_of(declared: &Module) -> Option<&Expr>
 
 // The same for the module of the instance with number i.
 fn asked_in<'a>(parts: &[Instance<'a>], i: usize) -> Option<&'a Expr>
-    ensures { IfSome result (λ e. StandsIn (map instance_plain parts.now) i (plain e.now)) }
+    ensures { IfSome result (λ e. OccursIn (map instance_plain parts.now) i (plain e.now)) }
 {
     if i < parts.len() {
         asked_of(parts[i].module)

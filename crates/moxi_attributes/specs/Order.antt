@@ -1,4 +1,4 @@
--- The lists of variables that are still to come, where they stand in the order of their numbers.
+-- The lists of variables that are still to come, where they are in the order of their numbers.
 use Rattle.std.specs.Prelude.{List, [], ◌++◌}
 use Rattle.moxi_scripts.specs.declared.parts.Declared.{Declared}
 use Rattle.moxi_scripts.specs.declared.parts.Lists.{Lists}

@@ -36,20 +36,20 @@ one_moxi_judgement files model second a b h k =
 
 -- ---- what is answered to a script is answered to its bytes
 
-module _ (files : Option Files) (names : List (List ℕ)) (rose : Type 0) (second : List ℕ) (s : PlainScript) where
-  pub checks_ok : {E : Type 0} (result : Result Answer E) → flat_refusal s ≡ None → IfOk result (MayGive files names (λ fs. OfScript fs second s) rose) → IfOk result (MayGive files names (λ fs. OfChecks fs second s) rose)
-  checks_ok result accepted h = follows_ok files names rose (λ fs. OfScript fs second s) (λ fs. OfChecks fs second s) result (λ fs a k. inl (accepted, k)) h
+module _ (files : Option Files) (names : List (List ℕ)) (faulted : Type 0) (second : List ℕ) (s : PlainScript) where
+  pub checks_ok : {E : Type 0} (result : Result Answer E) → flat_refusal s ≡ None → IfOk result (MayGive files names (λ fs. OfScript fs second s) faulted) → IfOk result (MayGive files names (λ fs. OfChecks fs second s) faulted)
+  checks_ok result accepted h = follows_ok files names faulted (λ fs. OfScript fs second s) (λ fs. OfChecks fs second s) result (λ fs a k. inl (accepted, k)) h
 
-  pub checks_stop : {T : Type 0} (result : Result T Stop) → flat_refusal s ≡ None → IfErr result (StopsWith (MayGive files names (λ fs. OfScript fs second s) rose)) → IfErr result (StopsWith (MayGive files names (λ fs. OfChecks fs second s) rose))
-  checks_stop result accepted h = follows_stop files names rose (λ fs. OfScript fs second s) (λ fs. OfChecks fs second s) result (λ fs a k. inl (accepted, k)) h
+  pub checks_stop : {T : Type 0} (result : Result T Stop) → flat_refusal s ≡ None → IfErr result (StopsWith (MayGive files names (λ fs. OfScript fs second s) faulted)) → IfErr result (StopsWith (MayGive files names (λ fs. OfChecks fs second s) faulted))
+  checks_stop result accepted h = follows_stop files names faulted (λ fs. OfScript fs second s) (λ fs. OfChecks fs second s) result (λ fs a k. inl (accepted, k)) h
 
   of_bytes : (bytes : List ℕ) → IsScriptText bytes s → (fs : Files) (a : Answer) → OfChecks fs second s a → OfBytes fs second bytes a
   of_bytes bytes is fs a (inl x) = inl (s, is, x.0, x.1)
   of_bytes bytes is fs a (inr r) = inr (r.0, inr (s, is, r.1), r.2)
 
-  pub bytes_ok : {E : Type 0} (bytes : List ℕ) (result : Result Answer E) → IsScriptText bytes s → IfOk result (MayGive files names (λ fs. OfChecks fs second s) rose) → IfOk result (MayGive files names (λ fs. OfBytes fs second bytes) rose)
-  bytes_ok bytes result is h = follows_ok files names rose (λ fs. OfChecks fs second s) (λ fs. OfBytes fs second bytes) result (of_bytes bytes is) h
+  pub bytes_ok : {E : Type 0} (bytes : List ℕ) (result : Result Answer E) → IsScriptText bytes s → IfOk result (MayGive files names (λ fs. OfChecks fs second s) faulted) → IfOk result (MayGive files names (λ fs. OfBytes fs second bytes) faulted)
+  bytes_ok bytes result is h = follows_ok files names faulted (λ fs. OfChecks fs second s) (λ fs. OfBytes fs second bytes) result (of_bytes bytes is) h
 
-  pub bytes_stop : {T : Type 0} (bytes : List ℕ) (result : Result T Stop) → IsScriptText bytes s → IfErr result (StopsWith (MayGive files names (λ fs. OfChecks fs second s) rose))
-      → IfErr result (StopsWith (MayGive files names (λ fs. OfBytes fs second bytes) rose))
-  bytes_stop bytes result is h = follows_stop files names rose (λ fs. OfChecks fs second s) (λ fs. OfBytes fs second bytes) result (of_bytes bytes is) h
+  pub bytes_stop : {T : Type 0} (bytes : List ℕ) (result : Result T Stop) → IsScriptText bytes s → IfErr result (StopsWith (MayGive files names (λ fs. OfChecks fs second s) faulted))
+      → IfErr result (StopsWith (MayGive files names (λ fs. OfBytes fs second bytes) faulted))
+  bytes_stop bytes result is h = follows_stop files names faulted (λ fs. OfChecks fs second s) (λ fs. OfBytes fs second bytes) result (of_bytes bytes is) h

@@ -14,7 +14,7 @@ use Rattle.btor_witness.specs.Sizes.{sizes_of}
 use Rattle.btor_witness.specs.Texts.{SpellsWitness}
 use Rattle.moxi_scripts.specs.declared.script.Query.{Query}
 use Rattle.moxi_scripts.specs.Script.{PlainScript}
-use Rattle.moxi_scripts.specs.Whole.{IsWhole}
+use Rattle.moxi_scripts.specs.Valid.{IsValid}
 use Rattle.moxi_flat.specs.FlatMeeting.{MeetsFlat}
 use Rattle.moxi_flat.specs.FlatSystem.{flat_of}
 use Rattle.moxi_flat.specs.FlatLaws.{TracesHaveFlatTraces}
@@ -37,7 +37,7 @@ found : {T S : Type 0} (P : T → Type 0) (o : Option T) → IsSomeAnd o P → (
 found P None h go = absurd h
 found P (Some x) h go = go x refl h
 
-back : (s : PlainScript) → IsWhole s → TracesHaveFlatTraces → (w : Witness) → MeetsQueryOf (flat_of s) w.bad (lifted (flat_of s) w) → LiftsBack s w (lifted_response s w)
+back : (s : PlainScript) → IsValid s → TracesHaveFlatTraces → (w : Witness) → MeetsQueryOf (flat_of s) w.bad (lifted (flat_of s) w) → LiftsBack s w (lifted_response s w)
 unfolding lifted_response
 back s whole flattened w met =
     let steps = lifted (flat_of s) w in
@@ -56,7 +56,7 @@ back s whole flattened w met =
       });
     })
 
-pub lifts_back : (s : PlainScript) → IsWhole s → IsLaidOut (flat_of s) (lines_of (flat_of s)) → ((lines : List Line) → IsWellFormed lines → SpellsLines (printed lines) lines)
+pub lifts_back : (s : PlainScript) → IsValid s → IsLaidOut (flat_of s) (lines_of (flat_of s)) → ((lines : List Line) → IsWellFormed lines → SpellsLines (printed lines) lines)
     → ((text : List ℕ) (lines others : List Line) → SpellsLines text lines → SpellsLines text others → lines ≡ others) → LiftsMeetQueries → TracesHaveFlatTraces
     → (lines : List Line) → SpellsLines (btor_text s) lines → (text : List ℕ) (w : Witness) → SpellsWitness lines text w → judged_btor lines w Yes → LiftsBack s w (lifted_response s w)
 lifts_back s whole laid spells one meets flattened lines spelled text w states judged =

@@ -32,7 +32,7 @@ use Rattle.command_core.specs.declared.answer.Stop.{Stop}
 use Rattle.command_core.specs.declared.status.Status.TheVariants as status
 use Rattle.command_core.specs.Answers.{status_of, text_of}
 use Rattle.command_core.specs.Giving.{MayGive}
-use Rattle.command_core.specs.Reading.{GoesOn, StopsWith, file_within}
+use Rattle.command_core.specs.Reading.{ContinuesWith, StopsWith, file_within}
 use Rattle.command_core.specs.laws.Files.{done_from, goes_once, on_read}
 use Rattle.command_core.specs.laws.Given.{follows_ok, follows_stop}
 use Rattle.btor_commands.specs.Judgement.{witness_too_long}
@@ -89,36 +89,36 @@ own_lines : (script : PlainScript) (f : PlainFlatSystem) → f ≡ flat_of scrip
 unfolding btor_text
 own_lines script f e h = subst (λ (x : PlainFlatSystem). SpellsLines (printed (lines_of x)) (lines_of f)) e h
 
-module _ (files : Option Files) (names : List (List ℕ)) (rose : Type 0) (second : List ℕ) (script : PlainScript) where
+module _ (files : Option Files) (names : List (List ℕ)) (faulted : Type 0) (second : List ℕ) (script : PlainScript) where
   abbrev ForScript : Files → Answer → Type 0
   ForScript fs a = OfLines fs second (btor_text script) (lifted_response script) a
 
   abbrev ForLines : PlainFlatSystem → Files → Answer → Type 0
-  ForLines f fs a = GoesOn (file_within fs second most_witness_bytes witness_too_long) (OfText (lines_of f) (lifted_response script)) a
+  ForLines f fs a = ContinuesWith (file_within fs second most_witness_bytes witness_too_long) (OfText (lines_of f) (lifted_response script)) a
 
-  pub lines_ok : {E : Type 0} (f : PlainFlatSystem) (result : Result Answer E) → f ≡ flat_of script → SpellsLines (printed (lines_of f)) (lines_of f) → IfOk result (MayGive files names (ForLines f) rose) → IfOk result (MayGive files names ForScript rose)
-  lines_ok f result e spelled h = follows_ok files names rose (ForLines f) ForScript result (λ fs a k. (lines_of f, own_lines script f e spelled, k)) h
+  pub lines_ok : {E : Type 0} (f : PlainFlatSystem) (result : Result Answer E) → f ≡ flat_of script → SpellsLines (printed (lines_of f)) (lines_of f) → IfOk result (MayGive files names (ForLines f) faulted) → IfOk result (MayGive files names ForScript faulted)
+  lines_ok f result e spelled h = follows_ok files names faulted (ForLines f) ForScript result (λ fs a k. (lines_of f, own_lines script f e spelled, k)) h
 
-  pub lines_stop : {T : Type 0} (f : PlainFlatSystem) (result : Result T Stop) → f ≡ flat_of script → SpellsLines (printed (lines_of f)) (lines_of f) → IfErr result (StopsWith (MayGive files names (ForLines f) rose))
-      → IfErr result (StopsWith (MayGive files names ForScript rose))
-  lines_stop f result e spelled h = follows_stop files names rose (ForLines f) ForScript result (λ fs a k. (lines_of f, own_lines script f e spelled, k)) h
+  pub lines_stop : {T : Type 0} (f : PlainFlatSystem) (result : Result T Stop) → f ≡ flat_of script → SpellsLines (printed (lines_of f)) (lines_of f) → IfErr result (StopsWith (MayGive files names (ForLines f) faulted))
+      → IfErr result (StopsWith (MayGive files names ForScript faulted))
+  lines_stop f result e spelled h = follows_stop files names faulted (ForLines f) ForScript result (λ fs a k. (lines_of f, own_lines script f e spelled, k)) h
 
-  pub checks_ok : {E : Type 0} (result : Result Answer E) → flat_refusal script ≡ None → IfOk result (MayGive files names ForScript rose) → IfOk result (MayGive files names (λ fs. OfChecks fs second script) rose)
-  checks_ok result accepted h = follows_ok files names rose ForScript (λ fs. OfChecks fs second script) result (λ fs a k. inl (accepted, k)) h
+  pub checks_ok : {E : Type 0} (result : Result Answer E) → flat_refusal script ≡ None → IfOk result (MayGive files names ForScript faulted) → IfOk result (MayGive files names (λ fs. OfChecks fs second script) faulted)
+  checks_ok result accepted h = follows_ok files names faulted ForScript (λ fs. OfChecks fs second script) result (λ fs a k. inl (accepted, k)) h
 
-  pub checks_stop : {T : Type 0} (result : Result T Stop) → flat_refusal script ≡ None → IfErr result (StopsWith (MayGive files names ForScript rose)) → IfErr result (StopsWith (MayGive files names (λ fs. OfChecks fs second script) rose))
-  checks_stop result accepted h = follows_stop files names rose ForScript (λ fs. OfChecks fs second script) result (λ fs a k. inl (accepted, k)) h
+  pub checks_stop : {T : Type 0} (result : Result T Stop) → flat_refusal script ≡ None → IfErr result (StopsWith (MayGive files names ForScript faulted)) → IfErr result (StopsWith (MayGive files names (λ fs. OfChecks fs second script) faulted))
+  checks_stop result accepted h = follows_stop files names faulted ForScript (λ fs. OfChecks fs second script) result (λ fs a k. inl (accepted, k)) h
 
   of_bytes : (bytes : List ℕ) → IsScriptText bytes script → (fs : Files) (a : Answer) → OfChecks fs second script a → OfBytes fs second bytes a
   of_bytes bytes is fs a (inl x) = inl (script, record { is_script = is; accepted = x.0 }, x.1)
   of_bytes bytes is fs a (inr r) = inr (r.0, inr (script, is, r.1), r.2)
 
-  pub bytes_ok : {E : Type 0} (bytes : List ℕ) (result : Result Answer E) → IsScriptText bytes script → IfOk result (MayGive files names (λ fs. OfChecks fs second script) rose) → IfOk result (MayGive files names (λ fs. OfBytes fs second bytes) rose)
-  bytes_ok bytes result is h = follows_ok files names rose (λ fs. OfChecks fs second script) (λ fs. OfBytes fs second bytes) result (of_bytes bytes is) h
+  pub bytes_ok : {E : Type 0} (bytes : List ℕ) (result : Result Answer E) → IsScriptText bytes script → IfOk result (MayGive files names (λ fs. OfChecks fs second script) faulted) → IfOk result (MayGive files names (λ fs. OfBytes fs second bytes) faulted)
+  bytes_ok bytes result is h = follows_ok files names faulted (λ fs. OfChecks fs second script) (λ fs. OfBytes fs second bytes) result (of_bytes bytes is) h
 
-  pub bytes_stop : {T : Type 0} (bytes : List ℕ) (result : Result T Stop) → IsScriptText bytes script → IfErr result (StopsWith (MayGive files names (λ fs. OfChecks fs second script) rose))
-      → IfErr result (StopsWith (MayGive files names (λ fs. OfBytes fs second bytes) rose))
-  bytes_stop bytes result is h = follows_stop files names rose (λ fs. OfChecks fs second script) (λ fs. OfBytes fs second bytes) result (of_bytes bytes is) h
+  pub bytes_stop : {T : Type 0} (bytes : List ℕ) (result : Result T Stop) → IsScriptText bytes script → IfErr result (StopsWith (MayGive files names (λ fs. OfChecks fs second script) faulted))
+      → IfErr result (StopsWith (MayGive files names (λ fs. OfBytes fs second bytes) faulted))
+  bytes_stop bytes result is h = follows_stop files names faulted (λ fs. OfChecks fs second script) (λ fs. OfBytes fs second bytes) result (of_bytes bytes is) h
 
 -- ---- what a response stands for
 

@@ -8,7 +8,7 @@ use Rattle.moxi_scripts.specs.declared.script.Script.{Script}
 use Rattle.moxi_scripts.specs.ScriptView.{plain_script}
 use Rattle.moxi_scripts.specs.Script.{PlainScript}
 use Rattle.moxi_scripts.specs.Asking.{query_at}
-use Rattle.moxi_scripts.specs.Whole.{query_names}
+use Rattle.moxi_scripts.specs.Valid.{query_names}
 use Rattle.moxi_flat.specs.FlatSystem.{PlainFlatSystem, flat_of}
 use Rattle.moxi_judge.specs.Judging.{IsStatedTrace}
 use Rattle.moxi_trace.specs.declared.point.Answered.{Answered}

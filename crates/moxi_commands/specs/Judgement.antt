@@ -19,7 +19,7 @@ use Rattle.moxi_responses.specs.Declaring.{declared_of}
 use Rattle.command_core.specs.declared.answer.Answer.{Answer}
 use Rattle.command_core.specs.declared.answer.Answer.TheVariants.{Refused, SecondRefused, No, Done}
 use Rattle.command_core.specs.declared.answer.Output.TheVariants as output
-use Rattle.command_core.specs.Reading.{GoesOn, file_within}
+use Rattle.command_core.specs.Reading.{ContinuesWith, file_within}
 use Rattle.moxi_commands.specs.Limits.{most_script_bytes, most_response_bytes}
 use Rattle.moxi_commands.specs.Scripts.{IsRefusal, IsScriptText, script_too_long}
 
@@ -51,7 +51,7 @@ OfText s text answer = answer ≡ of_response s (response_of (declared_of s) tex
 
 -- the verdict on the response in the second file, for the script
 abbrev pub OfScript : Files → List ℕ → PlainScript → Answer → Type 0
-OfScript files second s answer = GoesOn (file_within files second most_response_bytes response_too_long) (OfText s) answer
+OfScript files second s answer = ContinuesWith (file_within files second most_response_bytes response_too_long) (OfText s) answer
 
 -- the verdict on the response in the second file, for the script that the bytes spell, or the refusal of the bytes
 abbrev pub OfBytes : Files → List ℕ → List ℕ → Answer → Type 0
@@ -59,7 +59,7 @@ OfBytes files second bytes answer = ((s : PlainScript) × IsScriptText bytes s �
 
 -- the verdict on the response in the second file, for the script in the first
 abbrev pub IsMoxiJudgement : Files → List ℕ → List ℕ → Answer → Type 0
-IsMoxiJudgement files model second answer = GoesOn (file_within files model most_script_bytes script_too_long) (OfBytes files second) answer
+IsMoxiJudgement files model second answer = ContinuesWith (file_within files model most_script_bytes script_too_long) (OfBytes files second) answer
 
 -- the verdict on the response in the second file, for the script, or the refusal of the system that its check instantiates
 abbrev pub OfChecks : Files → List ℕ → PlainScript → Answer → Type 0

@@ -20,7 +20,7 @@ use Rattle.moxi_trace.specs.Texts.{response_text}
 use Rattle.moxi_responses.specs.Declaring.{declared_of}
 use Rattle.command_core.specs.declared.answer.Answer.{Answer}
 use Rattle.command_core.specs.declared.answer.Answer.TheVariants.{Refused}
-use Rattle.command_core.specs.Reading.{GoesOn, file_within}
+use Rattle.command_core.specs.Reading.{ContinuesWith, file_within}
 use Rattle.moxi_commands.specs.Limits.{most_script_bytes}
 use Rattle.moxi_commands.specs.Scripts.{IsRefusal, script_too_long}
 use Rattle.moxi_commands.specs.Translation.{IsInstantiated, btor_text}
@@ -37,7 +37,7 @@ OfBytes files second bytes answer =
 
 -- the answer for the witness in the second file and the script in the first
 abbrev pub IsMoxiLift : Files → List ℕ → List ℕ → Answer → Type 0
-IsMoxiLift files model second answer = GoesOn (file_within files model most_script_bytes script_too_long) (OfBytes files second) answer
+IsMoxiLift files model second answer = ContinuesWith (file_within files model most_script_bytes script_too_long) (OfBytes files second) answer
 
 -- the answer for the witness in the second file and the script, or the refusal of the system that its check instantiates
 abbrev pub OfChecks : Files → List ℕ → PlainScript → Answer → Type 0

@@ -6,7 +6,7 @@ use Rattle.text_core.specs.Outside.{Files, file_at, grown}
 use Rattle.btor_tree.specs.declared.lines.Line.{Line}
 use Rattle.btor_tree.specs.Fits.{operands, is_bad}
 use Rattle.btor_tree.specs.Printing.{printed}
-use Rattle.btor_tree.specs.Sharing.{HasNoTwoAlike}
+use Rattle.btor_tree.specs.Sharing.{HasNoDuplicates}
 use Rattle.btor_tree.specs.Texts.{SpellsLines}
 use Rattle.moxi_scripts.specs.Script.{PlainScript}
 use Rattle.moxi_flat.specs.FlatSystem.{flat_of}
@@ -14,7 +14,7 @@ use Rattle.moxi_flat.specs.Limits.{flat_refusal}
 use Rattle.moxi_lines.specs.Lines.{lines_of}
 use Rattle.moxi_layout.specs.LayoutLaws.{HasFrames, IsLaidOut}
 use Rattle.command_core.specs.declared.answer.Answer.{Answer}
-use Rattle.command_core.specs.Reading.{GoesOn, file_within}
+use Rattle.command_core.specs.Reading.{ContinuesWith, file_within}
 use Rattle.command_core.specs.Texts.{IsTextOr}
 use Rattle.btor_commands.specs.Traces.{HasTrace}
 use Rattle.moxi_commands.specs.Limits.{most_script_bytes}
@@ -44,7 +44,7 @@ OfBytes bytes answer = IsTextOr (IsLinesText bytes) (IsSystemRefusal bytes) answ
 
 -- the answer for the file with this name: the text of its script, or its refusal
 abbrev pub IsBtorText : Files → List ℕ → Answer → Type 0
-IsBtorText files model answer = GoesOn (file_within files model most_script_bytes script_too_long) OfBytes answer
+IsBtorText files model answer = ContinuesWith (file_within files model most_script_bytes script_too_long) OfBytes answer
 
 -- ---- the properties of the text
 
@@ -60,7 +60,7 @@ pub record WritesLines (script : PlainScript) (text : List ℕ) : Type 0 where
   pub spelled : SpellsLines text lines
   pub only : (others : List Line) → SpellsLines text others → others ≡ lines
   pub stand : RepresentsScript script lines
-  pub distinct : HasNoTwoAlike lines
+  pub distinct : HasNoDuplicates lines
 
 -- the lines of a script's flat system lay the system out
 abbrev pub ScriptLinesAreLaidOut : Type 0

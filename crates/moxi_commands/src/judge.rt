@@ -1,6 +1,6 @@
 // The command that judges a response to a MoXI script.
 ghost use Rattle.std.specs.Prelude.{◌≡◌, ◌<◌, ◌^◌, ◌-◌, [], ◌∷◌, length, IfOk, IfErr, IsErrAnd};
-ghost use Rattle.text_core.specs.Outside.{Rose};
+ghost use Rattle.text_core.specs.Outside.{HasNewFault};
 ghost use Rattle.moxi_scripts.specs.ScriptView.{plain_script};
 ghost use Rattle.moxi_flat.specs.FlatSystem.{flat_of};
 ghost use Rattle.moxi_judge.specs.Judging.{IsStatedTrace};
@@ -34,8 +34,8 @@ pub fn judge_moxi_files<F: Shelf>(
     second: &Name,
     shelf: &mut F,
 ) -> Result<Answer, Stop>
-    ensures answer { IfOk result (MayGive (F.files shelf.old) (model.now ∷ second.now ∷ []) (λ files. IsMoxiJudgement files model.now second.now) (Rose (F.faults shelf.old) (F.faults shelf.new))) }
-    ensures stop { IfErr result (StopsWith (MayGive (F.files shelf.old) (model.now ∷ second.now ∷ []) (λ files. IsMoxiJudgement files model.now second.now) (Rose (F.faults shelf.old) (F.faults shelf.new)))) }
+    ensures answer { IfOk result (MayGive (F.files shelf.old) (model.now ∷ second.now ∷ []) (λ files. IsMoxiJudgement files model.now second.now) (HasNewFault (F.faults shelf.old) (F.faults shelf.new))) }
+    ensures stop { IfErr result (StopsWith (MayGive (F.files shelf.old) (model.now ∷ second.now ∷ []) (λ files. IsMoxiJudgement files model.now second.now) (HasNewFault (F.faults shelf.old) (F.faults shelf.new)))) }
     ensures shelf { KeepsShelf (F.files shelf.old) (F.files shelf.new) (F.faults shelf.old) (F.faults shelf.new) (F.begun shelf.old) (F.begun shelf.new) (model.now ∷ second.now ∷ []) (IsErrAnd result StopsUnread) }
 {
     answer_files(alloc, model, second, &JudgeMoxi, shelf)
@@ -89,8 +89,8 @@ fn script_answer<F: Shelf>(
     second: &Name,
     shelf: &mut F,
 ) -> Result<Answer, Stop>
-    ensures answer { IfOk result (MayGive (F.files shelf.old) (second.now ∷ []) (λ files. OfChecks files second.now (plain_script script.now)) (Rose (F.faults shelf.old) (F.faults shelf.new))) }
-    ensures stop { IfErr result (StopsWith (MayGive (F.files shelf.old) (second.now ∷ []) (λ files. OfChecks files second.now (plain_script script.now)) (Rose (F.faults shelf.old) (F.faults shelf.new)))) }
+    ensures answer { IfOk result (MayGive (F.files shelf.old) (second.now ∷ []) (λ files. OfChecks files second.now (plain_script script.now)) (HasNewFault (F.faults shelf.old) (F.faults shelf.new))) }
+    ensures stop { IfErr result (StopsWith (MayGive (F.files shelf.old) (second.now ∷ []) (λ files. OfChecks files second.now (plain_script script.now)) (HasNewFault (F.faults shelf.old) (F.faults shelf.new)))) }
     ensures shelf { KeepsShelf (F.files shelf.old) (F.files shelf.new) (F.faults shelf.old) (F.faults shelf.new) (F.begun shelf.old) (F.begun shelf.new) (second.now ∷ []) (IsErrAnd result StopsUnread) }
 {
     match instantiate(alloc, script) {

@@ -1,6 +1,6 @@
 // The command that lifts a witness of a MoXI script's BTOR2 text to a response.
 ghost use Rattle.std.specs.Prelude.{◌≡◌, [], ◌∷◌, IfOk, IfErr, IsErrAnd};
-ghost use Rattle.text_core.specs.Outside.{Rose};
+ghost use Rattle.text_core.specs.Outside.{HasNewFault};
 ghost use Rattle.btor_witness.specs.Printing.{IsWitness};
 ghost use Rattle.btor_witness.specs.Sizes.{sizes_of};
 ghost use Rattle.moxi_scripts.specs.ScriptView.{plain_script};
@@ -28,7 +28,7 @@ use command_core::{Answer, FirstFile, LastFile, Output, Stop, answer_file, answe
 use moxi_flat::traces_have_flat_traces;
 use moxi_lift::{LiftEnd, MoxiChain, lift_moxi, lifts_meet_queries};
 use moxi_responses::print_response;
-use moxi_scripts::{Script, spelled_scripts_are_whole};
+use moxi_scripts::{Script, spelled_scripts_are_valid};
 use std::alloc::Global;
 use std::mem::drop;
 use text_core::kinds::{moxi, witness};
@@ -41,8 +41,8 @@ pub fn lift_moxi_files<F: Shelf>(
     second: &Name,
     shelf: &mut F,
 ) -> Result<Answer, Stop>
-    ensures answer { IfOk result (MayGive (F.files shelf.old) (model.now ∷ second.now ∷ []) (λ files. IsMoxiLift files model.now second.now) (Rose (F.faults shelf.old) (F.faults shelf.new))) }
-    ensures stop { IfErr result (StopsWith (MayGive (F.files shelf.old) (model.now ∷ second.now ∷ []) (λ files. IsMoxiLift files model.now second.now) (Rose (F.faults shelf.old) (F.faults shelf.new)))) }
+    ensures answer { IfOk result (MayGive (F.files shelf.old) (model.now ∷ second.now ∷ []) (λ files. IsMoxiLift files model.now second.now) (HasNewFault (F.faults shelf.old) (F.faults shelf.new))) }
+    ensures stop { IfErr result (StopsWith (MayGive (F.files shelf.old) (model.now ∷ second.now ∷ []) (λ files. IsMoxiLift files model.now second.now) (HasNewFault (F.faults shelf.old) (F.faults shelf.new)))) }
     ensures shelf { KeepsShelf (F.files shelf.old) (F.files shelf.new) (F.faults shelf.old) (F.faults shelf.new) (F.begun shelf.old) (F.begun shelf.new) (model.now ∷ second.now ∷ []) (IsErrAnd result StopsUnread) }
 {
     answer_files(alloc, model, second, &LiftMoxi, shelf)
@@ -96,8 +96,8 @@ fn script_answer<F: Shelf>(
     second: &Name,
     shelf: &mut F,
 ) -> Result<Answer, Stop>
-    ensures answer { IfOk result (MayGive (F.files shelf.old) (second.now ∷ []) (λ files. OfChecks files second.now (plain_script script.now)) (Rose (F.faults shelf.old) (F.faults shelf.new))) }
-    ensures stop { IfErr result (StopsWith (MayGive (F.files shelf.old) (second.now ∷ []) (λ files. OfChecks files second.now (plain_script script.now)) (Rose (F.faults shelf.old) (F.faults shelf.new)))) }
+    ensures answer { IfOk result (MayGive (F.files shelf.old) (second.now ∷ []) (λ files. OfChecks files second.now (plain_script script.now)) (HasNewFault (F.faults shelf.old) (F.faults shelf.new))) }
+    ensures stop { IfErr result (StopsWith (MayGive (F.files shelf.old) (second.now ∷ []) (λ files. OfChecks files second.now (plain_script script.now)) (HasNewFault (F.faults shelf.old) (F.faults shelf.new)))) }
     ensures shelf { KeepsShelf (F.files shelf.old) (F.files shelf.new) (F.faults shelf.old) (F.faults shelf.new) (F.begun shelf.old) (F.begun shelf.new) (second.now ∷ []) (IsErrAnd result StopsUnread) }
 {
     match MoxiChain::of(alloc, script) {
@@ -117,8 +117,8 @@ fn chain_answer<F: Shelf>(
     shelf: &mut F,
 ) -> Result<Answer, Stop>
     requires chain { chain.now ≡ flat_of (plain_script script.now) }
-    ensures answer { IfOk result (MayGive (F.files shelf.old) (second.now ∷ []) (λ files. OfLines files second.now (btor_text (plain_script script.now)) (lifted_response (plain_script script.now))) (Rose (F.faults shelf.old) (F.faults shelf.new))) }
-    ensures stop { IfErr result (StopsWith (MayGive (F.files shelf.old) (second.now ∷ []) (λ files. OfLines files second.now (btor_text (plain_script script.now)) (lifted_response (plain_script script.now))) (Rose (F.faults shelf.old) (F.faults shelf.new)))) }
+    ensures answer { IfOk result (MayGive (F.files shelf.old) (second.now ∷ []) (λ files. OfLines files second.now (btor_text (plain_script script.now)) (lifted_response (plain_script script.now))) (HasNewFault (F.faults shelf.old) (F.faults shelf.new))) }
+    ensures stop { IfErr result (StopsWith (MayGive (F.files shelf.old) (second.now ∷ []) (λ files. OfLines files second.now (btor_text (plain_script script.now)) (lifted_response (plain_script script.now))) (HasNewFault (F.faults shelf.old) (F.faults shelf.new)))) }
     ensures shelf { KeepsShelf (F.files shelf.old) (F.files shelf.new) (F.faults shelf.old) (F.faults shelf.new) (F.begun shelf.old) (F.begun shelf.new) (second.now ∷ []) (IsErrAnd result StopsUnread) }
 {
     lines_are_spelled(chain.nodes());
@@ -160,7 +160,7 @@ impl<'a, 's> LastFile for WitnessFile<'a, 's> {
 }
 
 // The response of a witness's trace, or the judge's rejection of the witness. The chain is the script's.
-#[tactic(auto, using(btor_commands::specs::laws::Lifts::denied))]
+#[tactic(auto, using(btor_commands::specs::laws::Lifts::rejected))]
 fn lifted_answer(
     alloc: Global,
     script: &Script,
@@ -189,7 +189,7 @@ fn lifted_answer(
 pub fn traces_are_lifted()
     ensures { TracesAreLifted }
 {
-    spelled_scripts_are_whole();
+    spelled_scripts_are_valid();
     script_lines_are_laid_out();
     printed_spells();
     one_reading();

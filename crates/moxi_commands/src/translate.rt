@@ -1,6 +1,6 @@
 // The command that translates a MoXI script to BTOR2.
 ghost use Rattle.std.specs.Prelude.{◌≡◌, ◌≤◌, [], ◌∷◌, None, length, IfOk, IfErr, IsErrAnd};
-ghost use Rattle.text_core.specs.Outside.{Rose};
+ghost use Rattle.text_core.specs.Outside.{HasNewFault};
 ghost use Rattle.btor_tree.specs.Printing.{printed};
 ghost use Rattle.moxi_scripts.specs.ScriptView.{plain_script};
 ghost use Rattle.moxi_flat.specs.Limits.{flat_refusal};
@@ -22,9 +22,9 @@ use moxi_flat::{flat_systems_are_sorted, traces_have_flat_traces};
 use moxi_instantiate::{FlatSystem, instantiate};
 use moxi_layout::{
     bads_are_queries, codes_are_few, flat_sizes_are_script_sizes, lines_lay_out, lines_stay_few,
-    no_two_lines_alike, traces_have_frames,
+    no_duplicate_lines, traces_have_frames,
 };
-use moxi_scripts::{Script, spelled_scripts_are_whole};
+use moxi_scripts::{Script, spelled_scripts_are_valid};
 use moxi_to_btor::to_btor;
 use std::alloc::Global;
 use std::mem::drop;
@@ -33,8 +33,8 @@ use text_core::{End, Name, NoMemory, Shelf, Text};
 
 /// Reads a MoXI script, and returns the BTOR2 text of the system that its check instantiates.
 pub fn moxi_to_btor<F: Shelf>(alloc: Global, model: &Name, shelf: &mut F) -> Result<Answer, Stop>
-    ensures answer { IfOk result (MayGive (F.files shelf.old) (model.now ∷ []) (λ files. IsBtorText files model.now) (Rose (F.faults shelf.old) (F.faults shelf.new))) }
-    ensures stop { IfErr result (StopsWith (MayGive (F.files shelf.old) (model.now ∷ []) (λ files. IsBtorText files model.now) (Rose (F.faults shelf.old) (F.faults shelf.new)))) }
+    ensures answer { IfOk result (MayGive (F.files shelf.old) (model.now ∷ []) (λ files. IsBtorText files model.now) (HasNewFault (F.faults shelf.old) (F.faults shelf.new))) }
+    ensures stop { IfErr result (StopsWith (MayGive (F.files shelf.old) (model.now ∷ []) (λ files. IsBtorText files model.now) (HasNewFault (F.faults shelf.old) (F.faults shelf.new)))) }
     ensures shelf { KeepsShelf (F.files shelf.old) (F.files shelf.new) (F.faults shelf.old) (F.faults shelf.new) (F.begun shelf.old) (F.begun shelf.new) (model.now ∷ []) (IsErrAnd result StopsUnread) }
 {
     answer_file(alloc, model, &MoxiToBtor, shelf)
@@ -109,7 +109,7 @@ fn text_of_system(alloc: Global, system: &FlatSystem<'_>) -> Result<Text, NoMemo
 pub fn script_lines_are_laid_out()
     ensures { ScriptLinesAreLaidOut }
 {
-    spelled_scripts_are_whole();
+    spelled_scripts_are_valid();
     codes_are_few();
     flat_systems_are_sorted();
     flat_sizes_are_script_sizes();
@@ -117,17 +117,17 @@ pub fn script_lines_are_laid_out()
     lines_lay_out();
 }
 
-/// Proves that the BTOR2 text of a script spells one list of lines, no two of which are alike.
+/// Proves that the BTOR2 text of a script spells one list of lines, no two of which are equal.
 ///
 /// A trace meets query j at step k exactly where the lines have frames 0 to k. In these frames every constraint is true,
 /// and bad line j is true in the last one.
 pub fn lines_are_correct()
     ensures { LinesAreCorrect }
 {
-    spelled_scripts_are_whole();
+    spelled_scripts_are_valid();
     script_lines_are_laid_out();
     bads_are_queries();
-    no_two_lines_alike();
+    no_duplicate_lines();
     traces_have_frames();
     traces_have_flat_traces();
     printed_spells();

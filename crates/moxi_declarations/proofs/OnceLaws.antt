@@ -1,4 +1,4 @@
--- Lists in which no name stands twice: no test of it fails, and each name is found with its own sort.
+-- Lists in which no name occurs twice: no test of it fails, and each name is found with its own sort.
 use Rattle.std.proofs.Common.{◌≡◌, ℕ, suc, ◌+◌, ◌≤◌, Bool, true, false, ◌||◌, not, cond, List, [], ◌∷◌, ◌++◌, length, map, Option, Some, is_none, refl, sym, ap, ◌∙◌, subst, arith, append-nil, append_assoc}
 use Rattle.std.specs.List.{list_any}
 use Rattle.std.specs.Str.{bytes_eq}
@@ -55,7 +55,7 @@ or_parts : (a b : Bool) → (a || b) ≡ false → (a ≡ false) × (b ≡ false
 or_parts true b h = absurd (cc)
 or_parts false b h = (refl, h)
 
--- what stands behind other names is found
+-- what is behind other names is found
 found_behind : (n : ℕ) (seen more : List Local) (x : Local) → list_any (bytes_eq x.name) (map name_of seen) ≡ false → found_sort (first_of n (seen ++ x ∷ more) x.name) ≡ x.sort
 found_behind n [] more x h =
     ap (λ b. found_sort (cond b (Some (record { number = n; sort = x.sort })) (first_of (suc n) more x.name))) ((bytes_eq-Decides x.name x.name).1 refl)
@@ -78,7 +78,7 @@ each_found seen (d ∷ ds) h =
     ∙ ap (λ ls. x ∷ locals_found ls ds) (sym (append_assoc seen (x ∷ []) (locals_among ds)))
     ∙ ap (λ ls. x ∷ ls) tail
 
--- where no name stands twice, no test of it fails
+-- where no name occurs twice, no test of it fails
 none_twice : (names : List (List ℕ)) (ds : List Declared) → length (names_after names ds) ≡ length names + length ds → twice_failures names ds ≡ []
 none_twice names [] h = refl
 none_twice names (d ∷ ds) h =
@@ -161,7 +161,7 @@ first_any n (x ∷ xs) q = go (bytes_eq q x.name) (first_any (suc n) xs q)
 named_first : (xs : List Local) (q : List ℕ) → is_none (first_of 0 xs q) ≡ is_none (place_of (names_among [] xs) q)
 named_first xs q = first_any 0 xs q ∙ ap not (sym (any_among q [] xs)) ∙ sym (placed (names_among [] xs) q)
 
--- no name stands twice
+-- no name occurs twice
 abbrev pub AreOnce : List Local → Type 0
 AreOnce xs = length (names_among [] xs) ≡ length xs
 

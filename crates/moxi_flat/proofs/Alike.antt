@@ -6,7 +6,7 @@ use Rattle.moxi_scripts.specs.declared.script.Subsystem.{Subsystem}
 use Rattle.moxi_scripts.specs.Script.{PlainSystem, system_at, variables_in}
 use Rattle.moxi_scripts.specs.laws.WholeParts.{all_of}
 use Rattle.moxi_flat.specs.Terms.{operator_size, term_height, term_size, terms_height, terms_size}
-use Rattle.moxi_flat.specs.Instantiating.{HasActuals, RenumbersAlike, SystemsAreOverVariables}
+use Rattle.moxi_flat.specs.Instantiating.{HasActuals, RenumbersConsistently, SystemsAreOverVariables}
 use Rattle.moxi_flat.specs.Renumbering.{AreOver, IsOver, all_renumbered, renumbered}
 use Rattle.moxi_flat.proofs.Fine.{interface, own_sorts, sort_of}
 use Rattle.moxi_flat.proofs.Scripts.{are_fine, there_at}
@@ -57,8 +57,8 @@ module _ (calls : ℕ → ℕ) (place : ℕ → ℕ) where
     same_heights no_trees = refl
     same_heights (tree t ts) = ap (λ n. max n (terms_height calls (all_renumbered place ts))) (same_height t) ∙ ap (λ n. max (term_height calls t) n) (same_heights ts)
 
-pub renumbers_alike_law : RenumbersAlike
-renumbers_alike_law = record {
+pub renumbers_consistently_law : RenumbersConsistently
+renumbers_consistently_law = record {
   same = λ n place other agree t h. same_renumbered n place other agree t h;
   size = λ calls place t. same_size calls place t;
   height = λ calls place t. same_height calls place t;

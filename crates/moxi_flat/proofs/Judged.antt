@@ -15,7 +15,7 @@ use Rattle.moxi_scripts.specs.Script.{PlainScript, calls_in, system_at}
 use Rattle.moxi_scripts.specs.Asking.{query_tests, system_tests}
 use Rattle.moxi_scripts.specs.Behaviour.{Holds, Trace}
 use Rattle.moxi_scripts.specs.Meeting.{Hiddens, all_hold, each_holds, first_failing, is_reached_before, is_true, judged_from, judged_moxi, step_tests, verdict_or}
-use Rattle.moxi_scripts.specs.Whole.{IsWhole}
+use Rattle.moxi_scripts.specs.Valid.{IsValid}
 use Rattle.moxi_scripts.specs.laws.WholeNames.{and_both}
 use Rattle.moxi_scripts.proofs.AskingLaws.{first_part}
 use Rattle.moxi_scripts.proofs.MeetingLaws.{asks, meets, passed, passes, true_is}
@@ -93,7 +93,7 @@ module _ (s : PlainScript) (flat : Trace) where
 
 -- THE JUDGE
 
-module _ (s : PlainScript) (w : IsWhole s) (q : Query) (k : ℕ) (trace : Trace) (hs : Hiddens) (flat : Trace) (out : WritesOut s k trace hs flat) (suits : SuitsFlat s k flat) where
+module _ (s : PlainScript) (w : IsValid s) (q : Query) (k : ℕ) (trace : Trace) (hs : Hiddens) (flat : Trace) (out : WritesOut s k trace hs flat) (suits : SuitsFlat s k flat) where
   abbrev ps : List PlainPart
   ps = (flat_of s).parts
 

@@ -9,8 +9,8 @@ use Rattle.moxi_terms.specs.Sorted.{HasSort, HaveSorts, IsUnprimed, AreUnprimed}
 use Rattle.moxi_terms.specs.Tree.{Tree, constant, variable, bound, apply, binding, call, Trees, no_trees, tree, PlainFunction, sorts_of}
 use Rattle.moxi_terms.specs.View.{ScopeState}
 use Rattle.moxi_term_reading.specs.declared.locals.Local.{Local}
-use Rattle.moxi_term_print.specs.Standing.{StandEach, Stands, bound_locals}
-use Rattle.moxi_scripts.specs.Whole.{over}
+use Rattle.moxi_term_print.specs.WellScoped.{AreWellScoped, IsWellScoped, bound_locals}
+use Rattle.moxi_scripts.specs.Valid.{over}
 use Rattle.moxi_flat.specs.Renumbering.{renumbered, all_renumbered}
 
 -- the variables have their sorts at these places
@@ -46,10 +46,10 @@ mutual
   all_unprimed place no_trees h = tt
   all_unprimed place (tree t ts) h = (unprimed_renumbered place t h.0, all_unprimed place ts h.1)
 
--- a term that can stand where primes are refused has none
+-- a term that can appear where primes are refused has none
 module _ (scope : ScopeState) (vs : List Variable) where
   mutual
-    pub stands_unprimed : (ls : List Local) (t : Tree) (s : Sort) → Stands (over scope vs Refused) ls t s → IsUnprimed t
+    pub stands_unprimed : (ls : List Local) (t : Tree) (s : Sort) → IsWellScoped (over scope vs Refused) ls t s → IsUnprimed t
     stands_unprimed ls (constant d) s h = tt
     stands_unprimed ls (variable v primed) s h = h.1
     stands_unprimed ls (bound i) s h = tt
@@ -57,7 +57,7 @@ module _ (scope : ScopeState) (vs : List Variable) where
     stands_unprimed ls (binding names ts t) s h = (each_unprimed ls ts h.0 h.3, stands_unprimed (ls ++ bound_locals names h.0) t s h.4)
     stands_unprimed ls (call n ts) s h = each_unprimed ls ts (sorts_of h.0.parameters) h.3
 
-    each_unprimed : (ls : List Local) (ts : Trees) (ss : List Sort) → StandEach (over scope vs Refused) ls ts ss → AreUnprimed ts
+    each_unprimed : (ls : List Local) (ts : Trees) (ss : List Sort) → AreWellScoped (over scope vs Refused) ls ts ss → AreUnprimed ts
     each_unprimed ls no_trees ss h = tt
     each_unprimed ls (tree t ts) [] h = absurd h
     each_unprimed ls (tree t ts) (s ∷ ss) h = (stands_unprimed ls t s h.0, each_unprimed ls ts ss h.1)

@@ -1,4 +1,4 @@
--- A trace of a whole script's check meets a query exactly where a trace of the flat system does.
+-- A trace of a valid script's check meets a query exactly where a trace of the flat system does.
 use Rattle.std.proofs.Common.{◌≡◌, ℕ, zero, suc, ◌+◌, ◌<◌, ◌≤◌, List, [], ◌∷◌, ◌++◌, length, Some, sym, ap, ◌∙◌, subst, arith}
 use Rattle.std.specs.Prelude.{slice_get}
 use Rattle.std.specs.List.{AllByRecursion}
@@ -16,10 +16,10 @@ use Rattle.moxi_scripts.specs.declared.script.Subsystem.{Subsystem}
 use Rattle.moxi_scripts.specs.Script.{PlainFormula, PlainScript, PlainSystem, calls_in, formula_at, no_system, system_at, variables_in}
 use Rattle.moxi_scripts.specs.Behaviour.{Behaves, Holds, Suits, Trace}
 use Rattle.moxi_scripts.specs.Meeting.{MeetsQuery}
-use Rattle.moxi_scripts.specs.Whole.{AreFormulas, IsFormula, IsWhole, IsWholeSubsystem, IsWholeSystem, check_variables, over}
+use Rattle.moxi_scripts.specs.Valid.{AreFormulas, IsFormula, IsValid, IsValidSubsystem, IsValidSystem, check_variables, over}
 use Rattle.moxi_scripts.specs.laws.WholeParts.{all_at, all_of, get_there, index_get, map_append}
 use Rattle.moxi_scripts.proofs.AskingStands.{stands_sorted}
-use Rattle.moxi_scripts.proofs.WholeRanks.{whole_has_ranks}
+use Rattle.moxi_scripts.proofs.WholeRanks.{valid_has_ranks}
 use Rattle.moxi_flat.specs.Renumbering.{IsOver}
 use Rattle.moxi_flat.specs.FlatSystem.{flat_of, locals_upto}
 use Rattle.moxi_flat.specs.FlatMeeting.{IsFlatTrace, MeetsFlat}
@@ -33,23 +33,23 @@ use Rattle.moxi_flat.proofs.Written.{of_sorts, written}
 
 -- WHAT A WHOLE SCRIPT GIVES
 
-module _ (s : PlainScript) (w : IsWhole s) where
+module _ (s : PlainScript) (w : IsValid s) where
   is_over : (vs : List Variable) (primes : Primes) (t : Tree) → IsFormula s.scope vs primes t → IsOver (length (sorts_of vs)) t
   is_over vs primes t h =
       sorted_over s.scope.enumerations s.scope.functions (sorts_of vs) [] t Truth (stands_sorted (over s.scope vs primes) (sorts_of vs) (known_variables vs) [] [] t Truth tt h)
 
-  fine_of : (x : PlainSystem) → IsWholeSystem s.scope s.systems x → IsFine s.systems x
+  fine_of : (x : PlainSystem) → IsValidSystem s.scope s.systems x → IsFine s.systems x
   fine_of x h = record {
     init = is_over (variables_in x) Refused x.init h.init;
     trans = is_over (variables_in x) Allowed x.trans h.trans;
     inv = is_over (variables_in x) Refused x.inv h.inv;
     actuals =
-        all_of (IsWholeSubsystem s.systems (variables_in x)) (λ (b : Subsystem). ActualsFit (own_sorts x) b.actuals (interface (system_at s.systems b.system))) x.subsystems
+        all_of (IsValidSubsystem s.systems (variables_in x)) (λ (b : Subsystem). ActualsFit (own_sorts x) b.actuals (interface (system_at s.systems b.system))) x.subsystems
         (λ b g. actuals_fit (own_sorts x) b.actuals (interface (system_at s.systems b.system)) g.actuals) h.subsystems;
   }
 
-  pub whole_at : (i : ℕ) (x : PlainSystem) → slice_get s.systems i ≡ Some x → IsWholeSystem s.scope s.systems x
-  whole_at i x e = all_at (IsWholeSystem s.scope s.systems) s.systems i x w.systems.systems e
+  pub whole_at : (i : ℕ) (x : PlainSystem) → slice_get s.systems i ≡ Some x → IsValidSystem s.scope s.systems x
+  whole_at i x e = all_at (IsValidSystem s.scope s.systems) s.systems i x w.systems.systems e
 
   pub are_fine : AreFine s.systems
   are_fine i h =
@@ -61,14 +61,14 @@ module _ (s : PlainScript) (w : IsWhole s) where
   all_pairs P Q (b ∷ bs) h g = ((h.0, g.0), all_pairs P Q bs h.1 g.1)
 
   ranks_fall : (i : ℕ) → i < length s.systems
-      → AllByRecursion (λ (b : Subsystem). (b.system < length s.systems) × ((whole_has_ranks s w).rank b.system < (whole_has_ranks s w).rank i)) (system_at s.systems i).subsystems
+      → AllByRecursion (λ (b : Subsystem). (b.system < length s.systems) × ((valid_has_ranks s w).rank b.system < (valid_has_ranks s w).rank i)) (system_at s.systems i).subsystems
   ranks_fall i h =
-      let rank = (whole_has_ranks s w).rank in
+      let rank = (valid_has_ranks s w).rank in
       let x = get_there s.systems i h in
       subst (λ (x : PlainSystem). AllByRecursion (λ (b : Subsystem). (b.system < length s.systems) × (rank b.system < rank i)) x.subsystems) (sym (index_get s.systems i x.0 no_system x.1))
       (all_pairs (λ (b : Subsystem). b.system < length s.systems) (λ (b : Subsystem). rank b.system < rank i) x.0.subsystems
-      (all_of (IsWholeSubsystem s.systems (variables_in x.0)) (λ (b : Subsystem). b.system < length s.systems) x.0.subsystems (λ b g. g.there) (whole_at i x.0 x.1).subsystems)
-      ((whole_has_ranks s w).falls i x.0 x.1))
+      (all_of (IsValidSubsystem s.systems (variables_in x.0)) (λ (b : Subsystem). b.system < length s.systems) x.0.subsystems (λ b g. g.there) (whole_at i x.0 x.1).subsystems)
+      ((valid_has_ranks s w).falls i x.0 x.1))
 
   -- with the other facts of the subsystems stands that their systems are there
   pub there_at : (P : Subsystem → Type 0) (i : ℕ) → i < length s.systems → AllByRecursion P (system_at s.systems i).subsystems
@@ -76,10 +76,10 @@ module _ (s : PlainScript) (w : IsWhole s) where
   there_at P i h all =
       let bs = (system_at s.systems i).subsystems in
       all_pairs (λ (b : Subsystem). b.system < length s.systems) P bs
-      (all_of (λ (b : Subsystem). (b.system < length s.systems) × ((whole_has_ranks s w).rank b.system < (whole_has_ranks s w).rank i)) (λ (b : Subsystem). b.system < length s.systems) bs (λ b g. g.0) (ranks_fall i h)) all
+      (all_of (λ (b : Subsystem). (b.system < length s.systems) × ((valid_has_ranks s w).rank b.system < (valid_has_ranks s w).rank i)) (λ (b : Subsystem). b.system < length s.systems) bs (λ b g. g.0) (ranks_fall i h)) all
 
   pub nests_at : (i : ℕ) → i < length s.systems → Nests (length s.systems) s.systems i
-  nests_at = nests s.systems (whole_has_ranks s w).rank ranks_fall
+  nests_at = nests s.systems (valid_has_ranks s w).rank ranks_fall
 
   pub nests_checked : Nests (length s.systems) s.systems s.check.system
   nests_checked = nests_at s.check.system w.check.there
@@ -141,7 +141,7 @@ module _ (calls : Calls) (n k : ℕ) (from to : Trace) (agree : (j v : ℕ) → 
 
 -- BOTH DIRECTIONS
 
-module _ (s : PlainScript) (w : IsWhole s) (q : Query) (k : ℕ) where
+module _ (s : PlainScript) (w : IsValid s) (q : Query) (k : ℕ) where
   pub flat_behaves : (trace flat : Trace) → Extends s k trace flat → IsFlatTrace (flat_of s) (k + 1) flat
       → Behaves s.scope.enumerations (calls_in s.scope) s.systems (k + 1) s.check.system trace
   flat_behaves trace flat extends f =

@@ -5,7 +5,7 @@ use Rattle.name_maps.specs.Names.{are_fresh}
 use Rattle.moxi_term_print.specs.Terms.{variable_names}
 use Rattle.moxi_terms.specs.declared.term.Variable.{Variable}
 use Rattle.moxi_scripts.specs.Script.{PlainSystem, system_at}
-use Rattle.moxi_scripts.specs.Whole.{check_variables}
+use Rattle.moxi_scripts.specs.Valid.{check_variables}
 use Rattle.moxi_flat.specs.FlatSystem.{PlainPart, count_upto, locals_each, locals_upto, part_of, parts_each, parts_upto}
 use Rattle.moxi_flat.specs.FlatLaws.{SingleSystemsAreFlat, own_part}
 use Rattle.moxi_flat.proofs.Renumbered.{renumbered_same}

@@ -5,7 +5,7 @@ use Rattle.std.specs.List.{AllByRecursion}
 use Rattle.std.proofs.lemmas.List.Sums.{sum_by-append, sum_by-cons}
 use Rattle.moxi_scripts.specs.declared.script.Subsystem.{Subsystem}
 use Rattle.moxi_scripts.specs.Script.{PlainSystem, system_at}
-use Rattle.moxi_scripts.specs.Whole.{check_variables}
+use Rattle.moxi_scripts.specs.Valid.{check_variables}
 use Rattle.moxi_flat.specs.Terms.{call_heights, call_sizes, term_height, term_size}
 use Rattle.moxi_flat.specs.Systems.{check_height, check_size, greatest_by, instance_height, instance_size}
 use Rattle.moxi_flat.specs.FlatSizes.{FlatSystemsHaveSizes, part_height, part_size}

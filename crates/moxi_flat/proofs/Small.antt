@@ -8,7 +8,7 @@ use Rattle.moxi_terms.specs.declared.term.Variable.{Variable}
 use Rattle.moxi_terms.specs.Tree.{sorts_of}
 use Rattle.moxi_scripts.specs.declared.script.Subsystem.{Subsystem}
 use Rattle.moxi_scripts.specs.Script.{PlainSystem, system_at}
-use Rattle.moxi_scripts.specs.Whole.{check_variables}
+use Rattle.moxi_scripts.specs.Valid.{check_variables}
 use Rattle.moxi_flat.specs.Terms.{call_sizes, term_size}
 use Rattle.moxi_flat.specs.Systems.{check_size, instance_size, script_size}
 use Rattle.moxi_flat.specs.FlatSystem.{count_upto, flat_of, locals_upto, parts_each, parts_upto, place_inside}

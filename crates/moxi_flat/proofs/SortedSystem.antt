@@ -13,7 +13,7 @@ use Rattle.moxi_terms.specs.Tree.{Tree, sorts_of}
 use Rattle.moxi_term_reading.specs.laws.SortedParts.{known_variables}
 use Rattle.moxi_scripts.specs.declared.script.Subsystem.{Subsystem}
 use Rattle.moxi_scripts.specs.Script.{PlainFormula, PlainScript, PlainSystem, no_system, system_at, variables_in}
-use Rattle.moxi_scripts.specs.Whole.{AreFormulas, IsFormula, IsWhole, IsWholeSystem, check_variables, over}
+use Rattle.moxi_scripts.specs.Valid.{AreFormulas, IsFormula, IsValid, IsValidSystem, check_variables, over}
 use Rattle.moxi_scripts.specs.laws.WholeParts.{all_append, all_of, all_parts, get_there, index_get}
 use Rattle.moxi_scripts.proofs.AskingStands.{stands_sorted}
 use Rattle.moxi_flat.specs.Renumbering.{renumbered}
@@ -28,15 +28,15 @@ use Rattle.moxi_flat.proofs.Shown.{behind_locals, behind_within}
 use Rattle.moxi_flat.proofs.Scripts.{are_fine, check_long, check_sorts_are, checked, flat_sorts, hidden_ones, nests_checked, whole_at}
 use Rattle.moxi_flat.proofs.Kept.{Keeps, sorted_renumbered, stands_unprimed, unprimed_renumbered}
 
-module _ (s : PlainScript) (w : IsWhole s) where
+module _ (s : PlainScript) (w : IsValid s) where
   abbrev ss : List PlainSystem
   ss = s.systems
 
   abbrev flat : List Sort
   flat = sorts_of (flat_of s).variables
 
-  at_whole : (i : ℕ) → i < length ss → IsWholeSystem s.scope ss (system_at ss i)
-  at_whole i h = let x = get_there ss i h in subst (IsWholeSystem s.scope ss) (sym (index_get ss i x.0 no_system x.1)) (whole_at s w i x.0 x.1)
+  at_whole : (i : ℕ) → i < length ss → IsValidSystem s.scope ss (system_at ss i)
+  at_whole i h = let x = get_there ss i h in subst (IsValidSystem s.scope ss) (sym (index_get ss i x.0 no_system x.1)) (whole_at s w i x.0 x.1)
 
   -- ---- formulas
 

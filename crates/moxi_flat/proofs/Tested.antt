@@ -12,7 +12,7 @@ use Rattle.moxi_scripts.specs.declared.script.Subsystem.{Subsystem}
 use Rattle.moxi_scripts.specs.Script.{PlainScript, PlainSystem, calls_in, system_at}
 use Rattle.moxi_scripts.specs.Behaviour.{Trace}
 use Rattle.moxi_scripts.specs.Meeting.{Hiddens, hidden, no_hidden, more_hidden, each_holds, is_true, within}
-use Rattle.moxi_scripts.specs.Whole.{check_variables}
+use Rattle.moxi_scripts.specs.Valid.{check_variables}
 use Rattle.moxi_scripts.specs.laws.WholeParts.{get_there, index_get}
 use Rattle.moxi_flat.specs.Renumbering.{renumbered, IsOver}
 use Rattle.moxi_flat.specs.FlatSystem.{PlainPart, place_inside, part_of, parts_each, parts_upto, count_upto}
@@ -46,11 +46,11 @@ hidden_values_are_written_law s k flat = record {
 
 -- TESTS
 
--- the values stand in the flat ones at these places
+-- the values are in the flat ones at these places
 abbrev Stand : ℕ → (ℕ → ℕ) → Values → Values → Type 0
 Stand n place flat own = (v : ℕ) → v < n → flat (place v) ≡ own v
 
--- what a subsystem's variables have stands at its places
+-- what a subsystem's variables have is at its places
 inside_stand : (x : PlainSystem) (place : ℕ → ℕ) (actuals : List ℕ) (fresh : ℕ) (flat own free : Values) (vars : List Sort) → ActualsFit vars actuals (interface x) → Stand (length vars) place flat own
     → ((v : ℕ) → v < length x.locals → flat (fresh + v) ≡ free v) → Stand (length (own_sorts x)) (place_inside place actuals fresh) flat (within actuals own free)
 inside_stand x place actuals fresh flat own free vars fit stand lies v h = by_test (nat_lt v (length actuals)) refl

@@ -83,7 +83,7 @@ inside_front place actuals fresh a v h =
     let e : nat_lt a (length actuals) ≡ true = grind (arith, nat_tests) in
     ap (λ b. cond b (place (slice_index_or actuals a 0)) (fresh + (a - length actuals))) e ∙ ap place (index_get actuals a v 0 h)
 
--- a local stands among the hidden ones
+-- a local is among the hidden ones
 pub inside_back : (place : ℕ → ℕ) (actuals : List ℕ) (fresh n h : ℕ) → length actuals ≡ n → place_inside place actuals fresh (n + h) ≡ fresh + h
 inside_back place actuals fresh n h l =
     let e : nat_lt (n + h) (length actuals) ≡ false = grind (arith, nat_tests) in

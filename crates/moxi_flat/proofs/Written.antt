@@ -38,7 +38,7 @@ lies_back steps start m n flat f g l = record {
 }
 
 module _ (es : List Enumeration) (calls : Calls) (ss : List PlainSystem) (fine : AreFine ss) (steps : ℕ) (some : 0 < steps) where
-  -- hidden values of these sorts, with which the parts hold wherever the trace and they stand in a flat trace
+  -- hidden values of these sorts, with which the parts hold wherever the trace and they are in a flat trace
   pub record Hides (sorts : List Sort) (parts : (ℕ → ℕ) → ℕ → List PlainPart) (n : ℕ) (trace : Trace) : Type 0 where
     pub hidden : Trace
     pub suits : (j : ℕ) → j < steps → Suits es sorts (hidden j)
@@ -48,7 +48,7 @@ module _ (es : List Enumeration) (calls : Calls) (ss : List PlainSystem) (fine :
   pub of_sorts : {i : ℕ} {trace : Trace} → Behaves es calls ss steps i trace → (j : ℕ) → j < steps → Suits es (own_sorts (system_at ss i)) (trace j)
   of_sorts (behaves le suits formulas subs) = suits
 
-  -- a subsystem's trace stands at its places
+  -- a subsystem's trace is at its places
   inside_shows : (s : PlainSystem) (place : ℕ → ℕ) (actuals : List ℕ) (fresh : ℕ) (vars : List Sort) (flat trace inner : Trace) → ActualsFit vars actuals (interface s)
       → Shows steps (length vars) place flat trace → Shares steps actuals trace inner → Lies steps fresh (length (local_sorts s)) flat (λ j h. inner j (length (interface s) + h))
       → Shows steps (length (own_sorts s)) (place_inside place actuals fresh) flat inner

@@ -10,7 +10,7 @@ use Rattle.moxi_scripts.specs.declared.script.Subsystem.{Subsystem}
 use Rattle.moxi_scripts.specs.Script.{PlainScript, PlainSystem, system_at}
 use Rattle.moxi_scripts.specs.Behaviour.{Trace}
 use Rattle.moxi_scripts.specs.Meeting.{Hiddens, hidden, no_hidden, more_hidden, each_holds, is_true, one_holds, within}
-use Rattle.moxi_scripts.specs.Whole.{check_variables}
+use Rattle.moxi_scripts.specs.Valid.{check_variables}
 use Rattle.moxi_flat.specs.FlatMeeting.{HasEach, HasUpto}
 use Rattle.moxi_flat.specs.FlatSystem.{count_upto}
 use Rattle.moxi_flat.specs.FlatLaws.{JudgedTracesAreWrittenOut}

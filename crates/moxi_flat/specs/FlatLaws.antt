@@ -7,7 +7,7 @@ use Rattle.moxi_scripts.specs.declared.script.Query.{Query}
 use Rattle.moxi_scripts.specs.Script.{PlainScript, PlainSystem, system_at}
 use Rattle.moxi_scripts.specs.Behaviour.{Suits, Trace}
 use Rattle.moxi_scripts.specs.Meeting.{Hiddens, MeetsQuery, all_hold, is_true, judged_moxi}
-use Rattle.moxi_scripts.specs.Whole.{IsWhole, check_variables}
+use Rattle.moxi_scripts.specs.Valid.{IsValid, check_variables}
 use Rattle.moxi_flat.specs.FlatSystem.{PlainPart, flat_of}
 use Rattle.moxi_flat.specs.Systems.{script_size}
 use Rattle.moxi_flat.specs.FlatSorts.{IsSortedFlat}
@@ -25,7 +25,7 @@ pub record IsMetFlat (s : PlainScript) (q : Query) (k : ℕ) (trace : Trace) : T
   pub meets : MeetsFlat (flat_of s) q k flat
 
 abbrev pub TracesHaveFlatTraces : Type 0
-TracesHaveFlatTraces = (s : PlainScript) → IsWhole s → (q : Query) (k : ℕ) (trace : Trace) → MeetsQuery s q k trace ↔ IsMetFlat s q k trace
+TracesHaveFlatTraces = (s : PlainScript) → IsValid s → (q : Query) (k : ℕ) (trace : Trace) → MeetsQuery s q k trace ↔ IsMetFlat s q k trace
 
 -- at the steps 0 to k the flat trace has the values of the trace and the hidden ones
 pub record WritesOut (s : PlainScript) (k : ℕ) (trace : Trace) (hs : Hiddens) (flat : Trace) : Type 0 where
@@ -42,7 +42,7 @@ pub record AreTested (s : PlainScript) (trace : Trace) (hs : Hiddens) (flat : Tr
   pub inv : all_hold s (λ x. x.inv) i j trace hs ≡ list_all (λ (p : PlainPart). is_true s (flat i) (flat j) p.inv) (flat_of s).parts
 
 abbrev pub PartsAreTested : Type 0
-PartsAreTested = (s : PlainScript) → IsWhole s → (k : ℕ) (trace : Trace) (hs : Hiddens) (flat : Trace) → WritesOut s k trace hs flat
+PartsAreTested = (s : PlainScript) → IsValid s → (k : ℕ) (trace : Trace) (hs : Hiddens) (flat : Trace) → WritesOut s k trace hs flat
     → (i j : ℕ) → i ≤ k → j ≤ k → AreTested s trace hs flat i j
 
 -- each variable of the flat system has a value of its sort at the steps 0 to k
@@ -51,15 +51,15 @@ SuitsFlat s k flat = (j : ℕ) → j ≤ k → Suits s.scope.enumerations (sorts
 
 -- the judge says Yes of a trace with hidden values exactly where the flat trace with the same values meets the query
 abbrev pub FlatTracesAreJudged : Type 0
-FlatTracesAreJudged = (s : PlainScript) → IsWhole s → (q : Query) (k : ℕ) (trace : Trace) (hs : Hiddens) (flat : Trace) → WritesOut s k trace hs flat → SuitsFlat s k flat
+FlatTracesAreJudged = (s : PlainScript) → IsValid s → (q : Query) (k : ℕ) (trace : Trace) (hs : Hiddens) (flat : Trace) → WritesOut s k trace hs flat → SuitsFlat s k flat
     → (judged_moxi s q k trace hs ≡ Yes) ↔ MeetsFlat (flat_of s) q k flat
 
 abbrev pub FlatSystemsAreSorted : Type 0
-FlatSystemsAreSorted = (s : PlainScript) → IsWhole s → IsSortedFlat (flat_of s)
+FlatSystemsAreSorted = (s : PlainScript) → IsValid s → IsSortedFlat (flat_of s)
 
 -- the variables and the parts together are no more than the size
 abbrev pub FlatSystemsAreSmall : Type 0
-FlatSystemsAreSmall = (s : PlainScript) → IsWhole s → length (flat_of s).variables + length (flat_of s).parts ≤ script_size s
+FlatSystemsAreSmall = (s : PlainScript) → IsValid s → length (flat_of s).variables + length (flat_of s).parts ≤ script_size s
 
 -- what the judge says Yes of is written out by some flat trace
 pub record IsWrittenOut (s : PlainScript) (k : ℕ) (trace : Trace) (hs : Hiddens) : Type 0 where
@@ -67,7 +67,7 @@ pub record IsWrittenOut (s : PlainScript) (k : ℕ) (trace : Trace) (hs : Hidden
   pub writes : WritesOut s k trace hs flat
 
 abbrev pub JudgedTracesAreWrittenOut : Type 0
-JudgedTracesAreWrittenOut = (s : PlainScript) → IsWhole s → (q : Query) (k : ℕ) (trace : Trace) (hs : Hiddens) → judged_moxi s q k trace hs ≡ Yes → IsWrittenOut s k trace hs
+JudgedTracesAreWrittenOut = (s : PlainScript) → IsValid s → (q : Query) (k : ℕ) (trace : Trace) (hs : Hiddens) → judged_moxi s q k trace hs ≡ Yes → IsWrittenOut s k trace hs
 
 abbrev pub own_part : PlainSystem → PlainPart
 own_part x = record { init = x.init; trans = x.trans; inv = x.inv }
@@ -79,4 +79,4 @@ pub record IsOwnSystem (s : PlainScript) : Type 0 where
   pub names : has_name_twice s ≡ false
 
 abbrev pub SingleSystemsAreFlat : Type 0
-SingleSystemsAreFlat = (s : PlainScript) → IsWhole s → (system_at s.systems s.check.system).subsystems ≡ [] → IsOwnSystem s
+SingleSystemsAreFlat = (s : PlainScript) → IsValid s → (system_at s.systems s.check.system).subsystems ≡ [] → IsOwnSystem s

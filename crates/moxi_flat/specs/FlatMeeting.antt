@@ -8,7 +8,7 @@ use Rattle.moxi_scripts.specs.declared.script.Subsystem.{Subsystem}
 use Rattle.moxi_scripts.specs.Script.{PlainScript, PlainSystem, calls_in, formula_at, system_at}
 use Rattle.moxi_scripts.specs.Behaviour.{Holds, Suits, Trace}
 use Rattle.moxi_scripts.specs.Meeting.{Hiddens, hidden, no_hidden, more_hidden}
-use Rattle.moxi_scripts.specs.Whole.{check_variables}
+use Rattle.moxi_scripts.specs.Valid.{check_variables}
 use Rattle.moxi_flat.specs.FlatSystem.{PlainFlatSystem, PlainPart, count_upto}
 
 -- the formulas of a part on a trace of so many steps
@@ -50,7 +50,7 @@ abbrev pub HasUpto : List PlainSystem → ℕ → ℕ → Trace → ℕ → ℕ 
 HasUpto ss zero k flat fresh i hs = Unit {0}
 HasUpto ss (suc n) k flat fresh i hs = HasEach ss (count_upto ss n) (HasUpto ss n k flat) k flat fresh (system_at ss i).subsystems hs
 
--- they stand behind the check's variables
+-- they are behind the check's variables
 abbrev pub HasHidden : PlainScript → ℕ → Trace → Hiddens → Type 0
 HasHidden s k flat hs = HasUpto s.systems (length s.systems) k flat (length (check_variables s.check)) s.check.system hs
 

@@ -1,7 +1,7 @@
 -- The size and the height of a flat system are those of the system that the script's check instantiates.
 use Rattle.std.specs.Prelude.{◌≡◌, ℕ, ◌+◌, max, length, sum_by}
 use Rattle.moxi_scripts.specs.Script.{PlainScript}
-use Rattle.moxi_scripts.specs.Whole.{IsWhole}
+use Rattle.moxi_scripts.specs.Valid.{IsValid}
 use Rattle.moxi_flat.specs.Terms.{call_heights, call_sizes, term_height, term_size}
 use Rattle.moxi_flat.specs.Systems.{check_height, check_size, greatest_by, script_height, script_size}
 use Rattle.moxi_flat.specs.FlatSystem.{PlainPart, flat_of}
@@ -19,4 +19,4 @@ pub record HasFlatSizes (s : PlainScript) : Type 0 where
   pub height : max (greatest_by (part_height (call_heights s.scope)) (flat_of s).parts) (check_height (call_heights s.scope) s.check) ≡ script_height s
 
 abbrev pub FlatSystemsHaveSizes : Type 0
-FlatSystemsHaveSizes = (s : PlainScript) → IsWhole s → HasFlatSizes s
+FlatSystemsHaveSizes = (s : PlainScript) → IsValid s → HasFlatSizes s

@@ -5,7 +5,7 @@ use Rattle.moxi_terms.specs.declared.data.Sort.TheVariants.{Truth}
 use Rattle.moxi_terms.specs.Sorted.{AreSorts, HasSort, IsScope, IsUnprimed}
 use Rattle.moxi_terms.specs.Tree.{Tree, sorts_of}
 use Rattle.moxi_scripts.specs.Script.{PlainFormula}
-use Rattle.moxi_scripts.specs.Whole.{IsWholeQuery}
+use Rattle.moxi_scripts.specs.Valid.{IsValidQuery}
 use Rattle.moxi_flat.specs.FlatSystem.{PlainFlatSystem, PlainPart}
 
 -- a term of truth values over the system's variables
@@ -31,4 +31,4 @@ pub record IsSortedFlat (f : PlainFlatSystem) : Type 0 where
   pub assumptions : AreFlatTruths f f.assumptions
   pub currents : AreFlatTruths f f.currents
   pub reachables : AreFlatTruths f f.reachables
-  pub queries : AllByRecursion (IsWholeQuery (length f.assumptions) (length f.currents) (length f.reachables)) f.queries
+  pub queries : AllByRecursion (IsValidQuery (length f.assumptions) (length f.currents) (length f.reachables)) f.queries

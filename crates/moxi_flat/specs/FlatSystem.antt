@@ -7,7 +7,7 @@ use Rattle.moxi_terms.specs.View.{ScopeState}
 use Rattle.moxi_scripts.specs.declared.script.Query.{Query}
 use Rattle.moxi_scripts.specs.declared.script.Subsystem.{Subsystem}
 use Rattle.moxi_scripts.specs.Script.{PlainFormula, PlainScript, PlainSystem, system_at}
-use Rattle.moxi_scripts.specs.Whole.{check_variables}
+use Rattle.moxi_scripts.specs.Valid.{check_variables}
 use Rattle.moxi_flat.specs.Renumbering.{renumbered}
 
 -- the formulas of one instance

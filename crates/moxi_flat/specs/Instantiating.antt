@@ -5,7 +5,7 @@ use Rattle.moxi_terms.specs.Tree.{Tree}
 use Rattle.moxi_scripts.specs.declared.script.Subsystem.{Subsystem}
 use Rattle.moxi_scripts.specs.Script.{PlainScript, PlainSystem, system_at, variables_in}
 use Rattle.moxi_scripts.specs.Behaviour.{Trace}
-use Rattle.moxi_scripts.specs.Whole.{IsWhole}
+use Rattle.moxi_scripts.specs.Valid.{IsValid}
 use Rattle.moxi_flat.specs.Terms.{term_height, term_size}
 use Rattle.moxi_flat.specs.Systems.{instance_height, instance_size, nesting_upto}
 use Rattle.moxi_flat.specs.FlatMeeting.{hiddens_upto}
@@ -23,11 +23,11 @@ pub record IsEnough (ss : List PlainSystem) (n i : ℕ) : Type 0 where
   pub hiddens : (trace : Trace) (fresh : ℕ) → hiddens_upto ss (suc n) trace fresh i ≡ hiddens_upto ss n trace fresh i
 
 abbrev pub SystemsBoundNesting : Type 0
-SystemsBoundNesting = (s : PlainScript) → IsWhole s → (i : ℕ) → i < length s.systems → IsEnough s.systems (length s.systems) i
+SystemsBoundNesting = (s : PlainScript) → IsValid s → (i : ℕ) → i < length s.systems → IsEnough s.systems (length s.systems) i
 
 -- a subsystem nests less deep than the system in which it stands
 abbrev pub NestingFalls : Type 0
-NestingFalls = (s : PlainScript) → IsWhole s → (i : ℕ) → i < length s.systems
+NestingFalls = (s : PlainScript) → IsValid s → (i : ℕ) → i < length s.systems
     → AllByRecursion (λ (b : Subsystem). nesting_upto s.systems (length s.systems) b.system < nesting_upto s.systems (length s.systems) i) (system_at s.systems i).subsystems
 
 abbrev pub LocalsAreCounted : Type 0
@@ -47,10 +47,10 @@ pub record IsOverVariables (ss : List PlainSystem) (s : PlainSystem) : Type 0 wh
   pub subsystems : AllByRecursion (HasActuals ss (length (variables_in s))) s.subsystems
 
 abbrev pub SystemsAreOverVariables : Type 0
-SystemsAreOverVariables = (s : PlainScript) → IsWhole s → (i : ℕ) → i < length s.systems → IsOverVariables s.systems (system_at s.systems i)
+SystemsAreOverVariables = (s : PlainScript) → IsValid s → (i : ℕ) → i < length s.systems → IsOverVariables s.systems (system_at s.systems i)
 
 -- renumbering a term looks at the numbers of its variables alone, and keeps its size and its height
-pub record RenumbersAlike : Type 0 where
+pub record RenumbersConsistently : Type 0 where
   pub same : (n : ℕ) (place other : ℕ → ℕ) → ((v : ℕ) → v < n → place v ≡ other v) → (t : Tree) → IsOver n t → renumbered place t ≡ renumbered other t
   pub size : (calls : ℕ → ℕ) (place : ℕ → ℕ) (t : Tree) → term_size calls (renumbered place t) ≡ term_size calls t
   pub height : (calls : ℕ → ℕ) (place : ℕ → ℕ) (t : Tree) → term_height calls (renumbered place t) ≡ term_height calls t

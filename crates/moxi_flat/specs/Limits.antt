@@ -16,7 +16,7 @@ is_too_large s = nat_lt 2000000 (script_size s) || (nat_lt 4000 (script_height s
 abbrev pub has_name_twice : PlainScript → Bool
 has_name_twice s = not (are_fresh [] (variable_names (flat_of s).variables))
 
--- both refusals stand at the check
+-- both refusals are at the check
 abbrev pub flat_refusal : PlainScript → Option Refusal
 flat_refusal s =
     if is_too_large s then Some (record { kind = M 15; place = s.check.place })

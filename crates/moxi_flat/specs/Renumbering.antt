@@ -16,7 +16,7 @@ abbrev mutual
   all_renumbered place no_trees = no_trees
   all_renumbered place (tree t ts) = tree (renumbered place t) (all_renumbered place ts)
 
--- only the first n variables stand in it
+-- only the first n variables are in it
 abbrev mutual
   pub IsOver : ℕ → Tree → Type 0
   IsOver n (constant d) = Unit {0}

@@ -1,9 +1,9 @@
 // Laws about flat systems.
 ghost use Rattle.moxi_flat.specs.FlatSizes.{FlatSystemsHaveSizes};
-ghost use Rattle.moxi_flat.specs.Instantiating.{LocalsAreCounted, NestingFalls, RenumbersAlike, SystemsAreOverVariables, SystemsBoundNesting};
+ghost use Rattle.moxi_flat.specs.Instantiating.{LocalsAreCounted, NestingFalls, RenumbersConsistently, SystemsAreOverVariables, SystemsBoundNesting};
 ghost use Rattle.moxi_flat.specs.FlatLaws.{FlatSystemsAreSmall, FlatSystemsAreSorted, FlatTracesAreJudged, HiddenValuesAreWritten, JudgedTracesAreWrittenOut, PartsAreTested, SingleSystemsAreFlat, TracesHaveFlatTraces};
 
-/// Proves that a trace meets a query of a whole script exactly where a trace of the flat system meets it.
+/// Proves that a trace meets a query of a valid script exactly where a trace of the flat system meets it.
 ///
 /// The flat trace has the same values of the check's variables.
 pub fn traces_have_flat_traces()
@@ -61,7 +61,7 @@ pub fn locals_are_counted()
     ensures { LocalsAreCounted }
 {}
 
-/// Proves that the formulas of the systems of a whole script are over their variables.
+/// Proves that the formulas of the systems of a valid script are over their variables.
 ///
 /// Their subsystems have a variable for each input and output.
 pub fn systems_are_over_variables()
@@ -69,8 +69,8 @@ pub fn systems_are_over_variables()
 {}
 
 /// Proves that renumbering depends only on the numbers of a term's variables, and keeps the term's size and height.
-pub fn renumbers_alike()
-    ensures { RenumbersAlike }
+pub fn renumbers_consistently()
+    ensures { RenumbersConsistently }
 {}
 
 /// Proves that a flat system has the check's variables and the checked system's own formulas, if that system has no

@@ -12,7 +12,7 @@ use Rattle.moxi_scripts.specs.declared.script.Check.{Check}
 use Rattle.moxi_scripts.specs.declared.script.System.{System}
 use Rattle.moxi_scripts.specs.Invariant.{script_of}
 use Rattle.moxi_scripts.specs.Script.{PlainScript, plain_formula}
-use Rattle.moxi_scripts.specs.Whole.{IsWhole}
+use Rattle.moxi_scripts.specs.Valid.{IsValid}
 use Rattle.moxi_flat.specs.FlatSizes.{FlatSystemsHaveSizes}
 use Rattle.moxi_flat.specs.FlatSorts.{IsSortedFlat}
 use Rattle.moxi_flat.specs.FlatSystem.{PlainFlatSystem, PlainPart, flat_of}
@@ -89,7 +89,7 @@ flat_same scope check us vs ps qs e f = ap (λ x. form_with scope check x ps) e 
 
 -- the flat system whose variables and parts these are
 pub instance_of : (logic : Option (List ℕ)) (scope : ScopeState) (systems : List System) (check : Check) (variables : List Variable) (parts : List Part)
-    → ∥ IsWhole (script_of logic scope systems check) ∥₁ → variables ≡ (flat_of (script_of logic scope systems check)).variables
+    → ∥ IsValid (script_of logic scope systems check) ∥₁ → variables ≡ (flat_of (script_of logic scope systems check)).variables
     → map plain_part parts ≡ (flat_of (script_of logic scope systems check)).parts → flat_refusal (script_of logic scope systems check) ≡ None
     → ∥ IsInstance (flat_form scope check variables parts) ∥₁
 instance_of logic scope systems check variables parts w e f accepted =

@@ -6,7 +6,7 @@ use Rattle.std.proofs.lemmas.Bool.Decides.{nat_tests}
 use Rattle.moxi_scripts.specs.declared.script.Subsystem.{Subsystem}
 use Rattle.moxi_scripts.specs.Script.{PlainSystem, system_at, variables_in}
 use Rattle.moxi_flat.specs.FlatSystem.{PlainPart, count_upto, part_of, parts_each, parts_upto, place_inside}
-use Rattle.moxi_flat.specs.Instantiating.{HasActuals, RenumbersAlike}
+use Rattle.moxi_flat.specs.Instantiating.{HasActuals, RenumbersConsistently}
 use Rattle.moxi_flat.specs.Renumbering.{renumbered}
 use Rattle.moxi_instantiate.specs.Copying.{number_in}
 use Rattle.moxi_instantiate.specs.Instances.{AreOverVariables, parts_inside}
@@ -48,7 +48,7 @@ module _ (ss : List PlainSystem) where
       (alike (place_inside place b.actuals fresh) (place_inside other b.actuals fresh) next b.system h.0.there (λ v l. inside_alike n place other same b h.0 fresh v))
       ∙ ap (λ ps. parts (place_inside other b.actuals fresh) next b.system ++ ps) (each_alike count parts alike n place other same (next + count b.system) bs h.1)
 
-  module _ (renumbers : RenumbersAlike) (over : AreOverVariables ss) where
+  module _ (renumbers : RenumbersConsistently) (over : AreOverVariables ss) where
     part_alike : (place other : ℕ → ℕ) (i : ℕ) → i < length ss → Agree (length (variables_in (system_at ss i))) place other → part_of place (system_at ss i) ≡ part_of other (system_at ss i)
     part_alike place other i l same =
         let x = system_at ss i in

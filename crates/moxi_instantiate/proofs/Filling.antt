@@ -1,4 +1,4 @@
--- Systems are counted in an order in which each stands after those of its subsystems.
+-- Systems are counted in an order in which each is after those of its subsystems.
 use Rattle.std.proofs.Common.{◌≡◌, ℕ, zero, suc, ◌+◌, ◌<◌, ◌⊎◌, inl, inr, max, Bool, true, false, ◌&&◌, ◌||◌, ◌==◌, nat_lt, List, [], ◌∷◌, ◌++◌, map, take, length, append_assoc, refl, sym, ap, ◌∙◌, subst, arith}
 use Rattle.std.specs.Prelude.{slice_index_or, slice_set as set, sum_by}
 use Rattle.std.specs.List.{AllByRecursion, list_all}

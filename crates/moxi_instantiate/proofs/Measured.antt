@@ -13,7 +13,7 @@ use Rattle.moxi_scripts.specs.declared.script.Subsystem.{Subsystem}
 use Rattle.moxi_scripts.specs.Script.{PlainScript, PlainSystem, system_at}
 use Rattle.moxi_flat.specs.Terms.{call_heights, call_sizes, measured_upto}
 use Rattle.moxi_flat.specs.Systems.{check_height, check_size, instance_height, instance_size, script_height, script_nesting, script_size}
-use Rattle.moxi_scripts.specs.Whole.{IsWhole}
+use Rattle.moxi_scripts.specs.Valid.{IsValid}
 use Rattle.moxi_flat.specs.declared.limits.TheConstants.{LARGEST, HIGHEST, DEEPEST}
 use Rattle.moxi_flat.specs.Instantiating.{HasActuals, NestingFalls, SystemsAreOverVariables, SystemsBoundNesting}
 use Rattle.moxi_flat.specs.Limits.{is_too_large}
@@ -26,7 +26,7 @@ each_there : (ss : List PlainSystem) (n : ℕ) (bs : List Subsystem) → AllByRe
 each_there ss n [] h = tt
 each_there ss n (b ∷ bs) h = (h.0.there, each_there ss n bs h.1)
 
-pub ranked_of : NestingFalls → SystemsBoundNesting → SystemsAreOverVariables → (s : PlainScript) → IsWhole s → AreRanked s.systems
+pub ranked_of : NestingFalls → SystemsBoundNesting → SystemsAreOverVariables → (s : PlainScript) → IsValid s → AreRanked s.systems
 ranked_of falls bound over s w = record {
   there = λ i h. each_there s.systems _ (system_at s.systems i).subsystems (over s w i h).subsystems;
   falls = falls s w;

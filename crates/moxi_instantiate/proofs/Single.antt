@@ -13,7 +13,7 @@ use Rattle.moxi_scripts.specs.declared.script.Check.{Check}
 use Rattle.moxi_scripts.specs.declared.script.Subsystem.{Subsystem}
 use Rattle.moxi_scripts.specs.declared.script.System.{System}
 use Rattle.moxi_scripts.specs.Script.{PlainScript, PlainSystem, plain_check, plain_system, system_at}
-use Rattle.moxi_scripts.specs.Whole.{IsWhole, check_variables}
+use Rattle.moxi_scripts.specs.Valid.{IsValid, check_variables}
 use Rattle.moxi_flat.specs.FlatSystem.{PlainFlatSystem, flat_of}
 use Rattle.moxi_flat.specs.FlatLaws.{SingleSystemsAreFlat, own_part}
 use Rattle.moxi_flat.specs.Limits.{has_name_twice}
@@ -35,7 +35,7 @@ none_left [] e = refl
 none_left (b ∷ bs) e = let h : length (b ∷ bs) ≡ 0 = eqb-true (length (b ∷ bs)) 0 e in absurd (omega (arith, h))
 
 -- then no two variables have one name: since this can be tested, it is known of a script whose forms aren't
-pub names_apart : SingleSystemsAreFlat → (s : PlainScript) → ∥ IsWhole s ∥₁ → nat_eq (length (system_at s.systems s.check.system).subsystems) 0 ≡ true → has_name_twice s ≡ false
+pub names_apart : SingleSystemsAreFlat → (s : PlainScript) → ∥ IsValid s ∥₁ → nat_eq (length (system_at s.systems s.check.system).subsystems) 0 ≡ true → has_name_twice s ≡ false
 names_apart law s w e = ∥∥₁_elim w (Bool-set (has_name_twice s) false) (λ i. (law s i (none_left (system_at s.systems s.check.system).subsystems e)).names)
 
 -- ---- a script of one system

@@ -1,4 +1,4 @@
--- What is known of a script that is whole, though its cause isn't, since it can be tested.
+-- What is known of a script that is valid, though its cause isn't, since it can be tested.
 use Rattle.std.proofs.Common.{◌≡◌, ℕ, ◌+◌, ◌<◌, ◌≤◌, ◌||◌, nat_lt, nat_eq, Bool, true, false, ◌^◌, List, [], ◌∷◌, ◌++◌, length, length-append, refl, sym, ap, ◌∙◌, arith}
 use Rattle.std.specs.List.{AllByRecursion}
 use Rattle.std.proofs.lemmas.Bool.Decides.{nat_tests}
@@ -7,7 +7,7 @@ use Rattle.std.proofs.Math.Logic.{∥∥₁_elim, ∥∥₁_map}
 use Rattle.moxi_terms.specs.Tree.{Tree, constant, variable, bound, apply, binding, call, Trees, no_trees, tree}
 use Rattle.moxi_scripts.specs.declared.script.Subsystem.{Subsystem}
 use Rattle.moxi_scripts.specs.Script.{PlainCheck, PlainScript, PlainSystem, system_at, variables_in}
-use Rattle.moxi_scripts.specs.Whole.{FitsSystem, IsWhole, check_variables}
+use Rattle.moxi_scripts.specs.Valid.{FitsSystem, IsValid, check_variables}
 use Rattle.moxi_flat.specs.Systems.{script_height, script_nesting, script_size}
 use Rattle.moxi_flat.specs.FlatSystem.{count_upto, flat_of, locals_upto}
 use Rattle.moxi_flat.specs.Instantiating.{HasActuals, IsOverVariables, LocalsAreCounted, SystemsAreOverVariables}
@@ -57,7 +57,7 @@ module _ (ss : List PlainSystem) where
         subsystems = all_held (HasActuals ss n) (actuals_held n) x.subsystems (∥∥₁_map w (λ h. h.subsystems));
       }
 
-pub systems_over : SystemsAreOverVariables → (s : PlainScript) → ∥ IsWhole s ∥₁ → AreOverVariables s.systems
+pub systems_over : SystemsAreOverVariables → (s : PlainScript) → ∥ IsValid s ∥₁ → AreOverVariables s.systems
 systems_over law s w i l = over_held s.systems (system_at s.systems i) (∥∥₁_map w (λ h. law s h i l))
 
 -- ---- the checked system
@@ -70,7 +70,7 @@ fits_long x c f =
     ∙ ap (λ n. length c.inputs + (length c.outputs + n)) (sym (long_as c.locals x.locals f.locals))
     ∙ sym (length-append c.inputs (c.outputs ++ c.locals) ∙ ap (λ n. length c.inputs + n) (length-append c.outputs c.locals))
 
-pub checked_long : (s : PlainScript) → ∥ IsWhole s ∥₁ → length (variables_in (system_at s.systems s.check.system)) ≡ length (check_variables s.check)
+pub checked_long : (s : PlainScript) → ∥ IsValid s ∥₁ → length (variables_in (system_at s.systems s.check.system)) ≡ length (check_variables s.check)
 checked_long s w =
     eq_held (length (variables_in (system_at s.systems s.check.system))) (length (check_variables s.check)) (∥∥₁_map w (λ h. fits_long (system_at s.systems s.check.system) s.check h.check.fits))
 
@@ -92,7 +92,7 @@ within_height s e =
 room_for : (all own inner parts size : ℕ) → all ≡ own + inner → all + parts ≤ size → size ≤ LARGEST → own + inner < 2 ^ 32
 room_for all own inner parts size e h g = omega (arith, e, h, g)
 
-pub has_room : LocalsAreCounted → FlatSystemsAreSmall → (s : PlainScript) → is_too_large s ≡ false → ∥ IsWhole s ∥₁
+pub has_room : LocalsAreCounted → FlatSystemsAreSmall → (s : PlainScript) → is_too_large s ≡ false → ∥ IsValid s ∥₁
     → length (check_variables s.check) + count_upto s.systems (length s.systems) s.check.system < 2 ^ 32
 has_room counted small s e w =
     let own = check_variables s.check in

@@ -8,7 +8,7 @@ use Rattle.moxi_terms.specs.View.{ScopeState}
 use Rattle.moxi_scripts.specs.declared.script.Check.{Check}
 use Rattle.moxi_scripts.specs.declared.script.Subsystem.{Subsystem}
 use Rattle.moxi_scripts.specs.Script.{PlainCheck, PlainScript, PlainSystem, plain_formula, system_at}
-use Rattle.moxi_scripts.specs.Whole.{IsWhole}
+use Rattle.moxi_scripts.specs.Valid.{IsValid}
 use Rattle.moxi_flat.specs.Terms.{call_heights, call_sizes}
 use Rattle.moxi_flat.specs.Systems.{check_height, check_size, greatest_by}
 use Rattle.moxi_flat.specs.FlatSizes.{part_height, part_size}
@@ -31,10 +31,10 @@ flat_form scope check variables parts =
       queries = check.queries;
     }
 
--- the flat system of a whole script that isn't refused
+-- the flat system of a valid script that isn't refused
 pub record IsInstance (f : PlainFlatSystem) : Type 0 where
   pub script : PlainScript
-  pub whole : IsWhole script
+  pub whole : IsValid script
   pub flat : flat_of script ≡ f
   pub accepted : flat_refusal script ≡ None
 
@@ -42,9 +42,9 @@ pub record IsInstance (f : PlainFlatSystem) : Type 0 where
 abbrev pub single_script : ScopeState → PlainSystem → PlainCheck → PlainScript
 single_script scope system check = record { logic = None; scope = scope; systems = system ∷ []; check = check }
 
--- a whole script that isn't refused, in whose checked system no other stands
+-- a valid script that isn't refused, in whose checked system no other stands
 pub record IsSingle (s : PlainScript) : Type 0 where
-  pub whole : IsWhole s
+  pub whole : IsValid s
   pub accepted : flat_refusal s ≡ None
   pub alone : (system_at s.systems s.check.system).subsystems ≡ []
 

@@ -2,7 +2,7 @@
 ghost use Rattle.std.specs.Prelude.{◌≡◌, ◌<◌, ◌+◌, ◌++◌, ◌∷◌, [], ◌^◌, ℕ, false, map, length, IfOk, OnOk};
 ghost use Rattle.moxi_scripts.specs.Script.{plain_system, system_at, variables_in};
 ghost use Rattle.moxi_scripts.specs.ScriptView.{plain_script};
-ghost use Rattle.moxi_scripts.specs.Whole.{IsWhole, check_variables};
+ghost use Rattle.moxi_scripts.specs.Valid.{IsValid, check_variables};
 ghost use Rattle.moxi_flat.specs.FlatSystem.{count_upto, flat_of, part_of, parts_upto};
 ghost use Rattle.moxi_flat.specs.Limits.{is_too_large};
 ghost use Rattle.moxi_instantiate.specs.Amounts.{AreRanked};
@@ -10,10 +10,10 @@ ghost use Rattle.moxi_instantiate.specs.Copying.{number_in};
 ghost use Rattle.moxi_instantiate.specs.Instances.{AreOverVariables, count_inside, parts_inside};
 ghost use Rattle.moxi_instantiate.specs.PlainParts.{plain_part};
 
-use crate::measures::{script_is_ranked, script_is_whole};
+use crate::measures::{script_is_ranked, script_is_valid};
 use crate::parts::{Parts, part_of, places_inside};
 use moxi_flat::{
-    flat_systems_are_small, locals_are_counted, renumbers_alike, systems_are_over_variables,
+    flat_systems_are_small, locals_are_counted, renumbers_consistently, systems_are_over_variables,
 };
 use moxi_scripts::{Script, Subsystem, System, Systems};
 use std::alloc::Global;
@@ -79,7 +79,7 @@ fn add_inside(
     ensures next { IfOk result (λ next. next ≡ fresh + count_inside (map plain_system systems.now) subsystem.now) }
     ensures parts { OnOk result (map plain_part parts.new ≡ map plain_part parts.old ++ parts_inside (map plain_system systems.now) (number_in places.now) fresh subsystem.now) }
 {
-    renumbers_alike();
+    renumbers_consistently();
     let system = systems.at(subsystem.system as usize);
     let locals = system.locals.len();
     let inside = places_inside(alloc, places, &subsystem.actuals, fresh, locals)?;
@@ -91,13 +91,13 @@ fn add_inside(
 // variables. If the system is not too large, all variables have numbers below 2^32.
 fn script_is_over_variables(script: &Script)
     requires small { is_too_large (plain_script script.now) ≡ false }
-    ensures whole { ∥ IsWhole (plain_script script.now) ∥₁ }
+    ensures whole { ∥ IsValid (plain_script script.now) ∥₁ }
     ensures over { AreOverVariables (plain_script script.now).systems }
     ensures long { length (variables_in (system_at (plain_script script.now).systems script.now.check.system)) ≡ length (check_variables (plain_script script.now).check) }
     ensures count { length script.now.check.inputs + length script.now.check.outputs + length script.now.check.locals ≡ length (check_variables (plain_script script.now).check) }
     ensures room { length (check_variables (plain_script script.now).check) + count_upto (plain_script script.now).systems (length (plain_script script.now).systems) script.now.check.system < 2 ^ 32 }
 {
-    script_is_whole(script);
+    script_is_valid(script);
     systems_are_over_variables();
     locals_are_counted();
     flat_systems_are_small();
@@ -110,7 +110,7 @@ pub(crate) fn flat_parts(alloc: Global, script: &Script) -> Result<Parts, NoMemo
 {
     script_is_ranked(script);
     script_is_over_variables(script);
-    renumbers_alike();
+    renumbers_consistently();
     let check = &script.check;
     let count = check.inputs.len() + check.outputs.len() + check.locals.len();
     let actuals = List::new(alloc);

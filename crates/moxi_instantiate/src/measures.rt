@@ -3,7 +3,7 @@ ghost use Rattle.std.specs.Prelude.{◌≡◌, ◌<◌, ◌≤◌, ◌||◌, nat
 ghost use Rattle.moxi_flat.specs.declared.limits.TheConstants as limits;
 ghost use Rattle.digraph.specs.Graph.{IsSorted};
 ghost use Rattle.moxi_scripts.specs.ScriptView.{plain_script};
-ghost use Rattle.moxi_scripts.specs.Whole.{IsWhole};
+ghost use Rattle.moxi_scripts.specs.Valid.{IsValid};
 ghost use Rattle.moxi_flat.specs.Systems.{script_height, script_nesting, script_size};
 ghost use Rattle.moxi_flat.specs.Limits.{is_too_large};
 ghost use Rattle.moxi_instantiate.specs.Amounts.{AreRanked, amount_upto, links_of};
@@ -16,7 +16,7 @@ use crate::systems::{Measure, amounts, order_of};
 use moxi_flat::{
     DEEPEST, HIGHEST, LARGEST, nesting_falls, systems_are_over_variables, systems_bound_nesting,
 };
-use moxi_scripts::{Script, spelled_scripts_are_whole};
+use moxi_scripts::{Script, spelled_scripts_are_valid};
 use std::alloc::Global;
 use text_core::{List, NoMemory};
 
@@ -30,11 +30,11 @@ pub struct Measures {
     pub nesting: u64,
 }
 
-// Proves that the script is whole, since forms spell it.
-pub(crate) fn script_is_whole(script: &Script)
-    ensures { ∥ IsWhole (plain_script script.now) ∥₁ }
+// Proves that the script is valid, since forms spell it.
+pub(crate) fn script_is_valid(script: &Script)
+    ensures { ∥ IsValid (plain_script script.now) ∥₁ }
 {
-    spelled_scripts_are_whole();
+    spelled_scripts_are_valid();
 }
 
 // Proves that the systems of a script have ranks, and that the checked system is one of them.
@@ -42,7 +42,7 @@ pub(crate) fn script_is_ranked(script: &Script)
     ensures ranked { ∥ AreRanked (plain_script script.now).systems ∥₁ }
     ensures there { script.now.check.system < length (plain_script script.now).systems }
 {
-    spelled_scripts_are_whole();
+    spelled_scripts_are_valid();
     nesting_falls();
     systems_bound_nesting();
     systems_are_over_variables();

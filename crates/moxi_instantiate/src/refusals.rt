@@ -10,7 +10,7 @@ ghost use Rattle.moxi_flat.specs.FlatSystem.{flat_of};
 ghost use Rattle.moxi_flat.specs.Limits.{flat_refusal, has_name_twice};
 ghost use Rattle.moxi_instantiate.specs.Instances.{IsInstEnd};
 
-use crate::measures::{is_too_large, script_is_ranked, script_is_whole};
+use crate::measures::{is_too_large, script_is_ranked, script_is_valid};
 use crate::variables::{add_locals, own_variables};
 use moxi_flat::single_systems_are_flat;
 use moxi_scripts::Script;
@@ -48,7 +48,7 @@ fn is_single_system(script: &Script) -> bool
     ensures single { result ≡ nat_eq (length (system_at (plain_script script.now).systems script.now.check.system).subsystems) 0 }
     ensures names { result ≡ true → has_name_twice (plain_script script.now) ≡ false }
 {
-    script_is_whole(script);
+    script_is_valid(script);
     script_is_ranked(script);
     single_systems_are_flat();
     let checked = script.systems.at(script.check.system as usize);

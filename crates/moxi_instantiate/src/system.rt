@@ -12,7 +12,7 @@ ghost use Rattle.moxi_instantiate.specs.Instances.{IsInstEnd, IsInstance, IsSing
 ghost use Rattle.moxi_instantiate.specs.PlainParts.{plain_part};
 
 use crate::instances::flat_parts;
-use crate::measures::script_is_whole;
+use crate::measures::script_is_valid;
 use crate::parts::{Parts, own_parts};
 use crate::refusals::accepted_variables;
 use crate::variables::own_variables;
@@ -108,7 +108,7 @@ impl<'a> FlatSystem<'a> {
         &self.check.queries
     }
 
-    /// Proves that this is the flat system of a whole script that is not refused.
+    /// Proves that this is the flat system of a valid script that is not refused.
     pub fn is_instance(&self)
         ensures { ∥ IsInstance self.now ∥₁ }
     {
@@ -151,7 +151,7 @@ pub fn instantiate<'a>(alloc: Global, script: &'a Script) -> Result<FlatSystem<'
 {
     let variables = accepted_variables(alloc, script)?;
     let parts = flat_parts(alloc, script)?;
-    script_is_whole(script);
+    script_is_valid(script);
     Ok(FlatSystem {
         scope: &script.scope,
         check: &script.check,

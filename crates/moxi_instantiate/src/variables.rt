@@ -1,7 +1,7 @@
 // The variables of a check, and those of all instances inside a system, under dotted names.
 ghost use Rattle.std.specs.Prelude.{◌≡◌, ◌<◌, ◌++◌, map, length, IfOk, OnOk};
 ghost use Rattle.moxi_scripts.specs.Script.{plain_check, plain_system, system_at};
-ghost use Rattle.moxi_scripts.specs.Whole.{check_variables};
+ghost use Rattle.moxi_scripts.specs.Valid.{check_variables};
 ghost use Rattle.moxi_flat.specs.FlatSystem.{locals_upto, named_inside, path_inside};
 ghost use Rattle.moxi_instantiate.specs.Amounts.{AreRanked};
 

@@ -7,7 +7,7 @@ use Rattle.moxi_terms.specs.Sorted.{IsUnprimed}
 use Rattle.moxi_terms.specs.Tree.{Tree, sorts_of}
 use Rattle.moxi_scripts.specs.declared.script.Query.{Query}
 use Rattle.moxi_scripts.specs.Script.{PlainFormula}
-use Rattle.moxi_scripts.specs.Whole.{IsWholeQuery}
+use Rattle.moxi_scripts.specs.Valid.{IsValidQuery}
 use Rattle.moxi_scripts.proofs.AskingSorts.{lt_held, sorted_held}
 use Rattle.moxi_flat.specs.FlatSorts.{AreFlatTruths, IsFlatTruth, IsSortedFlat, PartIsSorted}
 use Rattle.moxi_flat.specs.FlatSystem.{PlainFlatSystem, PlainPart}
@@ -31,7 +31,7 @@ module _ (f : PlainFlatSystem) where
   part_held p h Inv = truth_held p.inv (∥∥₁_map h (λ (s : PartIsSorted f p). s.inv))
 
   abbrev IsThere : Query → Type 0
-  IsThere q = IsWholeQuery (length f.assumptions) (length f.currents) (length f.reachables) q
+  IsThere q = IsValidQuery (length f.assumptions) (length f.currents) (length f.reachables) q
 
   query_held : (q : Query) → ∥ IsThere q ∥₁ → IsQueryOf f q
   query_held q h = record {

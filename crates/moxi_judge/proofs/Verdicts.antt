@@ -23,7 +23,7 @@ use Rattle.moxi_scripts.specs.Asking.{NothingFails, query_tests, system_tests}
 use Rattle.moxi_scripts.specs.Behaviour.{Behaves, Holds, Suits, Trace, behaves, no_subsystems}
 use Rattle.moxi_scripts.specs.Meeting.{Hiddens, MeetsQuery, all_hold, first_failing, is_reached_before, is_true, step_tests, verdict_or}
 use Rattle.moxi_scripts.specs.Meeting.{judged_from as judged_by_systems}
-use Rattle.moxi_scripts.specs.Whole.{IsWhole}
+use Rattle.moxi_scripts.specs.Valid.{IsValid}
 use Rattle.moxi_flat.specs.FlatSystem.{PlainFlatSystem, PlainPart, flat_of}
 use Rattle.moxi_flat.specs.FlatMeeting.{IsFlatTrace, MeetsFlat, PartHolds, hidden_values}
 use Rattle.moxi_flat.specs.FlatLaws.{AreTested, HiddenValuesAreWritten, PartsAreTested}
@@ -51,14 +51,14 @@ StepsAreTested =
     (s : PlainScript) (q : Query) (last : ℕ) (trace : Trace) (hs : Hiddens) (j : ℕ)
     → first_failing (step_tests s q last trace hs j) ≡ or_else (first_failing (system_tests s trace hs j)) (first_failing (query_tests s q last (is_reached_before s trace j) j (trace j)))
 
-module _ (written : HiddenValuesAreWritten) (tested : PartsAreTested) (steps : StepsAreTested) (s : PlainScript) (w : ∥ IsWhole s ∥₁) (q : Query) (k : ℕ) (flat : Trace) where
+module _ (written : HiddenValuesAreWritten) (tested : PartsAreTested) (steps : StepsAreTested) (s : PlainScript) (w : ∥ IsValid s ∥₁) (q : Query) (k : ℕ) (flat : Trace) where
   abbrev hs : Hiddens
   hs = hidden_values s flat
 
-  agree : (i j : ℕ) → i ≤ k → j ≤ k → IsWhole s → AreTested s flat hs flat i j
+  agree : (i j : ℕ) → i ≤ k → j ≤ k → IsValid s → AreTested s flat hs flat i j
   agree i j a b v = tested s v k flat hs flat (written s k flat) i j a b
 
-  held : (a b : Bool) → (IsWhole s → a ≡ b) → a ≡ b
+  held : (a b : Bool) → (IsValid s → a ≡ b) → a ≡ b
   held a b f = ∥∥₁_elim w (Bool-set a b) f
 
   invs_agree : (j : ℕ) → j ≤ k → list_all (λ (p : PlainPart). is_true s (flat j) (flat j) p.inv) (flat_of s).parts ≡ all_hold s (λ x. x.inv) j j flat hs

@@ -14,7 +14,7 @@ use crate::queries::{mark_reached, query_failing};
 use moxi_flat::{hidden_values_are_written, parts_are_tested};
 use moxi_instantiate::FlatSystem;
 use moxi_scripts::{
-    MoxiTrace, Query, Script, queries_are_met_where_nothing_fails, spelled_scripts_are_whole,
+    MoxiTrace, Query, Script, queries_are_met_where_nothing_fails, spelled_scripts_are_valid,
     steps_are_tested_by_system_and_query,
 };
 use moxi_terms::Env;
@@ -102,7 +102,7 @@ pub fn judge_moxi(
     ensures verdict { IfOk result (λ v. v ≡ judged_moxi (plain_script script.now) (query_at script.now.check.queries q) (length trace.now - 1) (trace_of trace.now) (hidden_values (plain_script script.now) (trace_of trace.now))) }
     ensures yes { IfOk result (λ v. (v ≡ Verdict.Yes) ↔ MeetsFlat (flat_of (plain_script script.now)) (query_at script.now.check.queries q) (length trace.now - 1) (trace_of trace.now)) }
 {
-    spelled_scripts_are_whole();
+    spelled_scripts_are_valid();
     hidden_values_are_written();
     parts_are_tested();
     steps_are_tested_by_system_and_query();

@@ -7,7 +7,7 @@ use Rattle.btor_tree.specs.declared.lines.Line.{Line}
 use Rattle.btor_tree.specs.declared.lines.LineOp.{LineOp}
 use Rattle.btor_tree.specs.declared.lines.LineOp.TheVariants as line
 use Rattle.btor_tree.specs.Fits.{is_bad, is_constraint, is_input, is_state, operands}
-use Rattle.btor_tree.specs.Sharing.{GrowsQuietly, is_shared}
+use Rattle.btor_tree.specs.Sharing.{GrowsByShared, is_shared}
 use Rattle.btor_tree.proofs.Paths.{operands_append}
 use Rattle.btor_witness.specs.Room.{places_in, places_of}
 use Rattle.moxi_layout.specs.Skeleton.{Entry, entries_in, entry, entry_of, entry_width, is_ordered}
@@ -146,7 +146,7 @@ quiet_operands : (kind : LineOp → Bool) → IsUnshared kind → (more : List L
 quiet_operands kind t [] a = refl
 quiet_operands kind t (l ∷ more) a = ap (λ b. cond b l.args [] ++ operands kind more) (t l.op a.0) ∙ quiet_operands kind t more a.1
 
-pub adds_quietly : (a b : List Line) → GrowsQuietly a b → Adds a b nothing_added
+pub adds_quietly : (a b : List Line) → GrowsByShared a b → Adds a b nothing_added
 adds_quietly a b g =
     record {
       extends = quietly a b g;
@@ -163,7 +163,7 @@ adds_quietly a b g =
     args : (kind : LineOp → Bool) → IsUnshared kind → operands kind b ≡ operands kind a ++ []
     args kind t = ap (operands kind) g.1 ∙ operands_append kind a g.0 ∙ ap (λ z. operands kind a ++ z) (quiet_operands kind t g.0 g.2)
 
-pub adds_then_quietly : (a b c : List Line) (d : Added) → Adds a b d → GrowsQuietly b c → Adds a c d
+pub adds_then_quietly : (a b c : List Line) (d : Added) → Adds a b d → GrowsByShared b c → Adds a c d
 adds_then_quietly a b c d g h =
     let q = adds_quietly b c h in
     record {

@@ -11,11 +11,11 @@ use Rattle.btor_tree.specs.Fits.{greatest_id, width_at}
 use Rattle.btor_tree.specs.Frame.{word_at}
 use Rattle.btor_tree.proofs.Widths.{wide}
 use Rattle.moxi_terms.specs.declared.data.Sort.TheVariants.{Truth}
-use Rattle.moxi_lines.specs.TermLines.{Made, chain_lines, folded_lines, with_binary}
+use Rattle.moxi_lines.specs.TermLines.{Built, chain_lines, folded_lines, with_binary}
 use Rattle.moxi_lines.specs.TermLaws.{AreNumbered}
 use Rattle.moxi_lines.proofs.Chains.{WordsAt, chain_made, fold_all, fold_words, folded_made}
 use Rattle.moxi_lines.proofs.CodeLaws.{goes_back}
-use Rattle.moxi_lines.proofs.Steps.{MadeWord, WordAt, binary_step}
+use Rattle.moxi_lines.proofs.Steps.{BuiltWord, WordAt, binary_step}
 use Rattle.moxi_lines.proofs.Words.{bit, and_true, or_false}
 use Rattle.moxi_lines.proofs.Extending.{Extends, extends_meets, extends_width}
 use Rattle.moxi_lines.proofs.Parts.{or_bit}
@@ -73,8 +73,8 @@ module _ (row : List BitVector) (known : Bool) where
   abbrev pub BitAt : List Line → ℕ → Bool → Type 0
   BitAt lines p b = WordAt row known lines p 1 (bit b)
 
-  abbrev pub BitMade : List Line → Made → Bool → Type 0
-  BitMade lines m b = MadeWord row known lines m 1 (bit b)
+  abbrev pub BitMade : List Line → Built → Bool → Type 0
+  BitMade lines m b = BuiltWord row known lines m 1 (bit b)
 
   pub bit_later : (a b : List Line) → Extends a b → (p : ℕ) (c : Bool) → BitAt a p c → BitAt b p c
   bit_later a b g p c at = record { width = extends_width a b p 1 (omega arith) g at.width; word = λ k m. at.word k (extends_meets a b row g m) }
@@ -103,10 +103,10 @@ module _ (row : List BitVector) (known : Bool) where
   words_of lines (p ∷ ps) [] a = absurd a
   words_of lines (p ∷ ps) (b ∷ bs) a = (a.0, words_of lines ps bs a.1)
 
-  named_so : (lines : List Line) (m : Made) (x : BitVector) (b : Bool) → x ≡ bit b → MadeWord row known lines m 1 x → BitMade lines m b
+  named_so : (lines : List Line) (m : Built) (x : BitVector) (b : Bool) → x ≡ bit b → BuiltWord row known lines m 1 x → BitMade lines m b
   named_so lines m x b e s = record { grows = s.grows; numbered = s.numbered; at = record { width = s.at.width; word = λ k met. s.at.word k met ∙ e } }
 
-  pub and_folded : (m : Made) (b : Bool) (ps : List ℕ) (bs : List Bool) → AreNumbered m.0 → BitAt m.0 m.1 b → AllZip (BitAt m.0) ps bs → length (folded_lines two.And m ps).0 < greatest_id
+  pub and_folded : (m : Built) (b : Bool) (ps : List ℕ) (bs : List Bool) → AreNumbered m.0 → BitAt m.0 m.1 b → AllZip (BitAt m.0) ps bs → length (folded_lines two.And m ps).0 < greatest_id
       → BitMade m.0 (folded_lines two.And m ps) (b && all_true bs)
   and_folded m b ps bs n at all room =
       named_so m.0 (folded_lines two.And m ps) (fold_words two.And (bit b) (map bit bs)) (b && all_true bs) (and_fold b bs)

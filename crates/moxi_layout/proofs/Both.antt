@@ -2,7 +2,7 @@
 use Rattle.std.proofs.Common.{ℕ, ◌≤◌, length, arith}
 use Rattle.btor_tree.specs.Frame.{ConstraintsHold, IsBad}
 use Rattle.moxi_terms.specs.Tree.{sorts_of}
-use Rattle.moxi_scripts.specs.Whole.{IsWholeQuery}
+use Rattle.moxi_scripts.specs.Valid.{IsValidQuery}
 use Rattle.moxi_flat.specs.FlatMeeting.{MeetsFlat}
 use Rattle.moxi_layout.specs.LayoutLaws.{FramesAreTraces, TracesAreFrames, TracesHaveFrames, decoded_trace}
 use Rattle.moxi_layout.proofs.Frames.{frames_meet, meet_frames}
@@ -24,7 +24,7 @@ traces_are_frames_law f lines laid i k q h trace m =
     let rows = p.0 in
     let suits = λ (j : ℕ) (l : j ≤ k). m.behaves.suits j (omega (arith, l)) in
     let agree = λ (j : ℕ) (l : j ≤ k). read_values f lines laid (row_at rows j) (trace j) (suits j l) (p.1.reads j l) in
-    let whole = all_get (IsWholeQuery (length f.assumptions) (length f.currents) (length f.reachables)) f.queries i q laid.sorted.queries h in
+    let whole = all_get (IsValidQuery (length f.assumptions) (length f.currents) (length f.reachables)) f.queries i q laid.sorted.queries h in
     let same : MeetsFlat f q k (decoded_trace f lines rows) = meets_same f laid.sorted k trace (decoded_trace f lines rows) (λ j l. agree_back (sorts_of f.variables) (decoded_trace f lines rows j) (trace j) (agree j l)) q whole m in
     let x = meet_frames f lines laid k (row_at rows) (path_rows lines rows k p.1.is_path p.1.sized) i q h (λ j l. read_inside f lines laid (row_at rows j) (trace j) (suits j l) (p.1.reads j l)) same in (
       rows,

@@ -16,7 +16,7 @@ use Rattle.moxi_terms.specs.declared.data.TermOp.{TermOp}
 use Rattle.moxi_terms.specs.declared.data.TermOp.TheVariants as op
 use Rattle.moxi_terms.specs.Sorts.{count_fits}
 use Rattle.moxi_flat.specs.Terms.{operator_size}
-use Rattle.moxi_lines.specs.TermLines.{Made, chain_lines, compared_lines, folded_lines, implied_lines, neighbours, paired_lines, pairs_of, with_binary, with_implication, with_operator, with_word}
+use Rattle.moxi_lines.specs.TermLines.{Built, chain_lines, compared_lines, folded_lines, implied_lines, neighbours, paired_lines, pairs_of, with_binary, with_implication, with_operator, with_word}
 use Rattle.moxi_layout.proofs.Growth.{Grows, grows_more, grows_none, grows_then, is_sort, sorted_grows}
 
 pub word_counts : (lines : List Line) (o : LineOp) (w : ℕ) (args : List Arg) → is_sort o ≡ false → Grows 1 lines (with_word lines o w args).0
@@ -25,7 +25,7 @@ word_counts lines o w args h = sorted_grows lines o w args None h
 pub binary_counts : (b : Binary) (lines : List Line) (p q : ℕ) → Grows 1 lines (with_binary b lines p q).0
 binary_counts b lines p q = word_counts lines (line.Binary b) (binary_width b (width_at lines p) (width_at lines q)) (plain_arg p ∷ plain_arg q ∷ []) refl
 
-pub folded_counts : (b : Binary) (m : Made) (qs : List ℕ) → Grows (length qs) m.0 (folded_lines b m qs).0
+pub folded_counts : (b : Binary) (m : Built) (qs : List ℕ) → Grows (length qs) m.0 (folded_lines b m qs).0
 folded_counts b m [] = grows_none m.0
 folded_counts b m (q ∷ qs) =
     let n = with_binary b m.0 m.1 q in
@@ -96,14 +96,14 @@ pub record OperatorCounts (o : TermOp) (lines : List Line) (ps : List ℕ) : Typ
 
 none_made : (o : TermOp) (lines : List Line) (ps : List ℕ) → with_operator o lines ps ≡ (lines, 0) → operator_size o (length ps) ≡ 1 → OperatorCounts o lines ps
 none_made o lines ps e s =
-    record { count = 0; grows = subst (λ (m : Made). Grows 0 lines m.0) (sym e) (grows_none lines); few = omega (arith, s) }
+    record { count = 0; grows = subst (λ (m : Built). Grows 0 lines m.0) (sym e) (grows_none lines); few = omega (arith, s) }
 
 one_made : (o : TermOp) (lines : List Line) (ps : List ℕ) → operator_size o (length ps) ≡ 1 → 1 ≤ length ps → Grows 1 lines (with_operator o lines ps).0 → OperatorCounts o lines ps
 one_made o lines ps s l g = record { count = 1; grows = g; few = omega (arith, s, l) }
 
 chain_made : (o : TermOp) (b : Binary) (lines : List Line) (ps : List ℕ) → operator_size o (length ps) ≡ 1 → with_operator o lines ps ≡ chain_lines b lines ps → OperatorCounts o lines ps
 chain_made o b lines ps s e =
-    record { count = length ps - 1; grows = subst (λ (m : Made). Grows (length ps - 1) lines m.0) (sym e) (chain_counts b lines ps); few = omega (arith, s) }
+    record { count = length ps - 1; grows = subst (λ (m : Built). Grows (length ps - 1) lines m.0) (sym e) (chain_counts b lines ps); few = omega (arith, s) }
 
 pub operator_counts : (o : TermOp) (lines : List Line) (ps : List ℕ) → count_fits o (length ps) ≡ true → OperatorCounts o lines ps
 operator_counts op.Not lines [] h = none_made op.Not lines [] refl refl

@@ -10,7 +10,7 @@ use Rattle.btor_tree.specs.declared.lines.Line.{Line}
 use Rattle.btor_tree.specs.declared.lines.LineOp.TheVariants as line
 use Rattle.btor_tree.specs.Fits.{greatest_id}
 use Rattle.btor_tree.specs.Frame.{Meets, word_at}
-use Rattle.btor_tree.specs.Sharing.{GrowsQuietly}
+use Rattle.btor_tree.specs.Sharing.{GrowsByShared}
 use Rattle.moxi_terms.specs.declared.data.Sort.TheVariants.{Truth}
 use Rattle.moxi_terms.specs.Operators.{nothing}
 use Rattle.moxi_terms.specs.Sorted.{AreFunctions, IsUnprimed}
@@ -21,8 +21,8 @@ use Rattle.moxi_scripts.specs.declared.script.Query.{Query}
 use Rattle.moxi_scripts.specs.Script.{PlainFormula, formula_at}
 use Rattle.moxi_flat.specs.FlatSorts.{AreFlatTruths, IsFlatTruth}
 use Rattle.moxi_flat.specs.FlatSystem.{PlainFlatSystem}
-use Rattle.moxi_lines.specs.TermLines.{AllMade, Made, folded_lines, with_binary}
-use Rattle.moxi_lines.specs.TermLaws.{AreNumbered, HaveCodes, VariablesStand}
+use Rattle.moxi_lines.specs.TermLines.{AllBuilt, Built, folded_lines, with_binary}
+use Rattle.moxi_lines.specs.TermLaws.{AreNumbered, HaveCodes, VariablesAreRepresented}
 use Rattle.moxi_lines.proofs.Chains.{binary_grows, folded_grows}
 use Rattle.moxi_lines.proofs.Growing.{grown_long, grown_none, grown_then}
 use Rattle.moxi_lines.proofs.Terms.{calls_grow, term_grows, whole_made}
@@ -40,28 +40,28 @@ use Rattle.moxi_lines.proofs.Parts.{implies_bit}
 -- ---- growth
 
 module _ (f : PlainFlatSystem) (inputs : List ℕ) where
-  pub formula_grows : (lines : List Line) (t : Tree) → GrowsQuietly lines (with_formula f.scope inputs lines t).0
+  pub formula_grows : (lines : List Line) (t : Tree) → GrowsByShared lines (with_formula f.scope inputs lines t).0
   formula_grows lines t = term_grows _ _ (calls_grow _ f.scope.functions (length f.scope.functions)) (input_place inputs) (input_place inputs) [] lines t
 
-  assumptions_grow : (m : AllMade) (is : List ℕ) → GrowsQuietly m.0 (with_assumptions f inputs m is).0
+  assumptions_grow : (m : AllBuilt) (is : List ℕ) → GrowsByShared m.0 (with_assumptions f inputs m is).0
   assumptions_grow m [] = grown_none m.0
   assumptions_grow m (i ∷ is) =
       let n = with_formula f.scope inputs m.0 (formula_at f.assumptions i) in
-      let next : AllMade = (n.0, m.1 ++ n.1 ∷ []) in
+      let next : AllBuilt = (n.0, m.1 ++ n.1 ∷ []) in
       grown_then m.0 n.0 (with_assumptions f inputs next is).0 (formula_grows m.0 (formula_at f.assumptions i)) (assumptions_grow next is)
 
-  currents_grow : (m : AllMade) (is : List ℕ) → GrowsQuietly m.0 (with_currents f inputs m is).0
+  currents_grow : (m : AllBuilt) (is : List ℕ) → GrowsByShared m.0 (with_currents f inputs m is).0
   currents_grow m [] = grown_none m.0
   currents_grow m (i ∷ is) =
       let n = with_formula f.scope inputs m.0 (formula_at f.currents i) in
       let g = with_binary two.Implies n.0 first_place n.1 in
-      let next : AllMade = (g.0, m.1 ++ g.1 ∷ []) in
+      let next : AllBuilt = (g.0, m.1 ++ g.1 ∷ []) in
       grown_then m.0 g.0 (with_currents f inputs next is).0
       (grown_then m.0 n.0 g.0 (formula_grows m.0 (formula_at f.currents i)) (binary_grows two.Implies n.0 first_place n.1)) (currents_grow next is)
 
   -- from the latch's init to the chain
   pub chain_grows_on : (lines : List Line) (s : ℕ) (q : Query) →
-      let c = with_currents f inputs (with_assumptions f inputs (lines, []) q.assumptions) q.currents in GrowsQuietly lines (folded_lines two.And (c.0, s) c.1).0
+      let c = with_currents f inputs (with_assumptions f inputs (lines, []) q.assumptions) q.currents in GrowsByShared lines (folded_lines two.And (c.0, s) c.1).0
   chain_grows_on lines s q =
       let a = with_assumptions f inputs (lines, []) q.assumptions in
       let c = with_currents f inputs a q.currents in
@@ -88,11 +88,11 @@ ok_latch f inputs lines q = record { state = (with_latch lines (q.name ++ codes 
 -- ---- words
 
 module _ (f : PlainFlatSystem) (codes_fit : HaveCodes f.scope.enumerations) (functions : AreFunctions f.scope.enumerations f.scope.functions) (inputs : List ℕ) (row : List BitVector) (known first : Bool) (now : Values) where
-  -- what stands in lines for formulas of one step
+  -- what is in lines for formulas of one step
   pub record Stands (lines : List Line) : Type 0 where
     pub head : Extends head_lines lines
     pub first_word : known ≡ true → Meets lines row → word_at row first_place ≡ bit first
-    pub variables : VariablesStand f.scope.enumerations row known lines (sorts_of f.variables) (input_place inputs) now
+    pub variables : VariablesAreRepresented f.scope.enumerations row known lines (sorts_of f.variables) (input_place inputs) now
 
   pub stands_later : (a b : List Line) → Extends a b → Stands a → Stands b
   stands_later a b g s =
@@ -102,7 +102,7 @@ module _ (f : PlainFlatSystem) (codes_fit : HaveCodes f.scope.enumerations) (fun
         variables = extends_variables _ row known a b _ _ now g s.variables;
       }
 
-  pub stands_quietly : (a b : List Line) → GrowsQuietly a b → Stands a → Stands b
+  pub stands_quietly : (a b : List Line) → GrowsByShared a b → Stands a → Stands b
   stands_quietly a b g s = stands_later a b (quietly a b g) s
 
   pub formula_made : (lines : List Line) (t : Tree) → AreNumbered lines → Stands lines → IsFlatTruth f t → length (with_formula f.scope inputs lines t).0 < greatest_id
@@ -116,7 +116,7 @@ module _ (f : PlainFlatSystem) (codes_fit : HaveCodes f.scope.enumerations) (fun
   first_at lines s = record { width = extends_width head_lines lines first_place 1 (omega arith) s.head refl; word = s.first_word }
 
   -- places of several truth values
-  pub record BitsMade (m : AllMade) (bs : List Bool) : Type 0 where
+  pub record BitsMade (m : AllBuilt) (bs : List Bool) : Type 0 where
     pub numbered : AreNumbered m.0
     pub at : AllZip (BitAt row known m.0) m.1 bs
 
@@ -126,12 +126,12 @@ module _ (f : PlainFlatSystem) (codes_fit : HaveCodes f.scope.enumerations) (fun
   abbrev current : ℕ → Bool
   current c = not first || is_true f.scope now now (formula_at f.currents c)
 
-  assumptions_made : (m : AllMade) (bs : List Bool) (is : List ℕ) → AllByRecursion (λ (i : ℕ). i < length f.assumptions) is → AreFlatTruths f f.assumptions → Stands m.0 → BitsMade m bs → length (with_assumptions f inputs m is).0 < greatest_id
+  assumptions_made : (m : AllBuilt) (bs : List Bool) (is : List ℕ) → AllByRecursion (λ (i : ℕ). i < length f.assumptions) is → AreFlatTruths f f.assumptions → Stands m.0 → BitsMade m bs → length (with_assumptions f inputs m is).0 < greatest_id
       → BitsMade (with_assumptions f inputs m is) (bs ++ map assumption is)
   assumptions_made m bs [] h a v d room = record { numbered = d.numbered; at = subst (AllZip (BitAt row known m.0) m.1) (sym (append-nil bs)) d.at }
   assumptions_made m bs (i ∷ is) h a v d room =
       let n = with_formula f.scope inputs m.0 (formula_at f.assumptions i) in
-      let next : AllMade = (n.0, m.1 ++ n.1 ∷ []) in
+      let next : AllBuilt = (n.0, m.1 ++ n.1 ∷ []) in
       let new = with_assumptions f inputs next is in
       let few : length n.0 < greatest_id = omega (arith, room, grown_long n.0 new.0 (assumptions_grow f inputs next is)) in
       let s = formula_made m.0 (formula_at f.assumptions i) d.numbered v (formula_is f f.assumptions i a h.0) few in
@@ -140,13 +140,13 @@ module _ (f : PlainFlatSystem) (codes_fit : HaveCodes f.scope.enumerations) (fun
       let r = assumptions_made next (bs ++ assumption i ∷ []) is h.1 a (stands_quietly m.0 n.0 s.grows v) made room in
       subst (BitsMade new) (append_assoc bs (assumption i ∷ []) (map assumption is)) r
 
-  currents_made : (m : AllMade) (bs : List Bool) (is : List ℕ) → AllByRecursion (λ (i : ℕ). i < length f.currents) is → AreFlatTruths f f.currents → Stands m.0 → BitsMade m bs → length (with_currents f inputs m is).0 < greatest_id
+  currents_made : (m : AllBuilt) (bs : List Bool) (is : List ℕ) → AllByRecursion (λ (i : ℕ). i < length f.currents) is → AreFlatTruths f f.currents → Stands m.0 → BitsMade m bs → length (with_currents f inputs m is).0 < greatest_id
       → BitsMade (with_currents f inputs m is) (bs ++ map current is)
   currents_made m bs [] h a v d room = record { numbered = d.numbered; at = subst (AllZip (BitAt row known m.0) m.1) (sym (append-nil bs)) d.at }
   currents_made m bs (i ∷ is) h a v d room =
       let n = with_formula f.scope inputs m.0 (formula_at f.currents i) in
       let g = with_binary two.Implies n.0 first_place n.1 in
-      let next : AllMade = (g.0, m.1 ++ g.1 ∷ []) in
+      let next : AllBuilt = (g.0, m.1 ++ g.1 ∷ []) in
       let new = with_currents f inputs next is in
       let few_g : length g.0 < greatest_id = omega (arith, room, grown_long g.0 new.0 (currents_grow f inputs next is)) in
       let few_n : length n.0 < greatest_id = omega (arith, few_g, grown_long n.0 g.0 (binary_grows two.Implies n.0 first_place n.1)) in
@@ -166,7 +166,7 @@ module _ (f : PlainFlatSystem) (codes_fit : HaveCodes f.scope.enumerations) (fun
       ∙ ap (λ b. list_all assumption q.assumptions && b) (list_all-map (λ b. b) current q.currents)
 
   -- the latch of the conditions
-  pub record ConditionsMade (lines : List Line) (q : Query) (l : Latch) (m : Made) : Type 0 where
+  pub record ConditionsMade (lines : List Line) (q : Query) (l : Latch) (m : Built) : Type 0 where
     pub extends : Extends lines m.0
     pub numbered : AreNumbered m.0
     pub latch : IsLatch m.0 one_place l

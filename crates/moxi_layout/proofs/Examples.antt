@@ -1,4 +1,4 @@
--- A small system whose lines stand in its order.
+-- A small system whose lines are in its order.
 use Rattle.std.proofs.Common.{◌≡◌, false, true, [], ◌∷◌, refl}
 use Rattle.std.specs.Prelude.{codes}
 use Rattle.moxi_terms.specs.declared.data.Sort.TheVariants.{Bits, Choice, Truth}

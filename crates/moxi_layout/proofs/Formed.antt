@@ -27,8 +27,8 @@ use Rattle.moxi_scripts.specs.Script.{formula_at}
 use Rattle.moxi_flat.specs.FlatSorts.{IsSortedFlat}
 use Rattle.moxi_flat.specs.FlatSystem.{PlainFlatSystem}
 use Rattle.moxi_lines.specs.Codes.{sort_bits}
-use Rattle.moxi_lines.specs.TermLines.{Made}
-use Rattle.moxi_lines.specs.TermLaws.{AreNumbered, HaveCodes, Makes, VariablesStand}
+use Rattle.moxi_lines.specs.TermLines.{Built}
+use Rattle.moxi_lines.specs.TermLaws.{AreNumbered, HaveCodes, Makes, VariablesAreRepresented}
 use Rattle.moxi_lines.proofs.Growing.{wide_inside}
 use Rattle.moxi_lines.proofs.Terms.{whole_made}
 use Rattle.moxi_lines.specs.Lines.{first_place, has_conditions, head_lines, input_place, lines_of, state_place, symbol_of, variable_lines, with_bad, with_conditions, with_formula, with_goal, with_parts, with_queries, with_query}
@@ -76,9 +76,9 @@ unfolding first_row
 first_is_one = refl
 
 module _ (f : PlainFlatSystem) (have : HaveCodes f.scope.enumerations) (sorted : IsSortedFlat f) (row : List BitVector) where
-  -- variables stand at places of their widths, though no word of theirs is known
+  -- variables are at places of their widths, though no word of theirs is known
   places_stand : (lines : List Line) (place : ℕ → ℕ) → ((v : ℕ) (s : Sort) → slice_get (sorts_of f.variables) v ≡ Some s → width_at lines (place v) ≡ sort_bits f.scope.enumerations s)
-      → VariablesStand f.scope.enumerations row false lines (sorts_of f.variables) place (some_values f.variables)
+      → VariablesAreRepresented f.scope.enumerations row false lines (sorts_of f.variables) place (some_values f.variables)
   unfolding some_values
   places_stand lines place width =
       let es = f.scope.enumerations in
@@ -96,16 +96,16 @@ module _ (f : PlainFlatSystem) (have : HaveCodes f.scope.enumerations) (sorted :
 
   module _ (inputs : List ℕ) where
     abbrev Stand : List Line → Type 0
-    Stand lines = VariablesStand f.scope.enumerations row false lines (sorts_of f.variables) (input_place inputs) (some_values f.variables)
+    Stand lines = VariablesAreRepresented f.scope.enumerations row false lines (sorts_of f.variables) (input_place inputs) (some_values f.variables)
 
-    bad_numbered : (name : List ℕ) (m : Made) → AreNumbered m.0 → width_at m.0 m.1 ≡ 1 → length m.0 < greatest_id → AreNumbered (with_bad name m)
+    bad_numbered : (name : List ℕ) (m : Built) → AreNumbered m.0 → width_at m.0 m.1 ≡ 1 → length m.0 < greatest_id → AreNumbered (with_bad name m)
     bad_numbered name m n w room =
         let arg = plain_arg m.1 in
         let suits : Suits m.0 line.Bad 0 (arg ∷ []) (symbol_of name) = record { earlier = (wide_inside m.0 m.1 1 (omega arith) w, tt); sorts = (refl, w); symbol = symbol_is name } in
         let fits = pushed_fit m.0 line.Bad 0 (arg ∷ []) (symbol_of name) n.fit n.ids room suits in
         record { fit = fits.0; ids = fits.1 }
 
-    second : (b : Bool) (x y : Made) → b ≡ false → cond b x y ≡ y
+    second : (b : Bool) (x y : Built) → b ≡ false → cond b x y ≡ y
     second true x y e = absurd (cc)
     second false x y e = refl
 

@@ -1,4 +1,4 @@
--- The words that are handed in for the values of a step, and a path that reads them.
+-- The words that are supplied for the values of a step, and a path that reads them.
 use Rattle.std.proofs.Common.{◌≡◌, ℕ, suc, ◌+◌, ◌<◌, ◌≤◌, cond, List, length, take, Some, refl, sym, ap, ◌∙◌, subst, arith}
 use Rattle.std.specs.Prelude.{slice_get}
 use Rattle.std.proofs.Math.Nat.{one-le-pow}

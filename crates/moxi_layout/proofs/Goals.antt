@@ -7,17 +7,17 @@ use Rattle.btor_tree.specs.declared.lines.Line.{Line}
 use Rattle.btor_tree.specs.declared.lines.LineOp.TheVariants as line
 use Rattle.btor_tree.specs.Fits.{Suits, greatest_id, plain_arg}
 use Rattle.btor_tree.specs.Frame.{Meets}
-use Rattle.btor_tree.specs.Sharing.{GrowsQuietly}
+use Rattle.btor_tree.specs.Sharing.{GrowsByShared}
 use Rattle.btor_tree.proofs.Equations.{pushed_fit}
 use Rattle.moxi_terms.specs.Sorted.{AreFunctions}
 use Rattle.moxi_terms.specs.Value.{Values}
 use Rattle.moxi_scripts.specs.declared.script.Query.{Query}
 use Rattle.moxi_scripts.specs.QueryReading.{some_distinct}
 use Rattle.moxi_scripts.specs.Script.{formula_at}
-use Rattle.moxi_scripts.specs.Whole.{IsWholeQuery}
+use Rattle.moxi_scripts.specs.Valid.{IsValidQuery}
 use Rattle.moxi_flat.specs.FlatSorts.{AreFlatTruths, IsSortedFlat}
 use Rattle.moxi_flat.specs.FlatSystem.{PlainFlatSystem}
-use Rattle.moxi_lines.specs.TermLines.{Made, chain_lines}
+use Rattle.moxi_lines.specs.TermLines.{Built, chain_lines}
 use Rattle.moxi_lines.specs.TermLaws.{AreNumbered, HaveCodes}
 use Rattle.moxi_lines.proofs.Chains.{binary_grows, chain_grows}
 use Rattle.moxi_lines.proofs.Growing.{grown_long, grown_none, grown_then, wide_inside}
@@ -61,13 +61,13 @@ all_places f inputs lines (q ∷ qs) = query_places f inputs lines q ∷ all_pla
 -- ---- growth
 
 module _ (f : PlainFlatSystem) (inputs : List ℕ) where
-  pub all_met_grows : (m : Reaching) (before : List ℕ) → GrowsQuietly m.lines (with_all_met m before).0
+  pub all_met_grows : (m : Reaching) (before : List ℕ) → GrowsByShared m.lines (with_all_met m before).0
   all_met_grows m before =
       let all = chain_lines two.And m.lines (before ++ m.seen) in
       let some = chain_lines two.Or all.0 m.formulas in
       grown_then m.lines all.0 _ (chain_grows two.And m.lines (before ++ m.seen)) (grown_then all.0 some.0 _ (chain_grows two.Or all.0 m.formulas) (binary_grows two.And some.0 all.1 some.1))
 
-  pub one_met_grows : (m : Made) (before : List ℕ) → GrowsQuietly m.0 (with_one_met m before).0
+  pub one_met_grows : (m : Built) (before : List ℕ) → GrowsByShared m.0 (with_one_met m before).0
   one_met_grows m [] = grown_none m.0
   one_met_grows m (p ∷ ps) = binary_grows two.And m.0 p m.1
 
@@ -86,7 +86,7 @@ module _ (f : PlainFlatSystem) (inputs : List ℕ) where
   pub query_extends : (lines : List Line) (q : Query) → Extends head_lines lines → Extends lines (with_query f inputs lines q)
   query_extends lines q g = go (has_conditions q.assumptions q.currents)
     where
-      c : Made
+      c : Built
       c = with_conditions f inputs lines q
 
       go : (b : Bool) → Extends lines (with_bad q.name (cond b (with_goal f inputs q (c.1 ∷ []) c.0 q.reachables) (with_goal f inputs q [] lines q.reachables)))
@@ -120,7 +120,7 @@ module _ (f : PlainFlatSystem) (codes_fit : HaveCodes f.scope.enumerations) (fun
   abbrev Held : List Line → List ℕ → Bool → Type 0
   Held lines before held = HeldAt f codes_fit functions inputs row known first now lines before held
 
-  pub record GoalMade (lines : List Line) (rs : List ℕ) (m : Made) (ls : List Latch) (b : Bool) : Type 0 where
+  pub record GoalMade (lines : List Line) (rs : List ℕ) (m : Built) (ls : List Latch) (b : Bool) : Type 0 where
     pub extends : Extends lines m.0
     pub numbered : AreNumbered m.0
     pub latches : AllZip (λ (r : ℕ) (l : Latch). IsLatch m.0 zero_place l) (latched rs) ls
@@ -185,7 +185,7 @@ module _ (f : PlainFlatSystem) (codes_fit : HaveCodes f.scope.enumerations) (fun
     pub seen : AllZip (λ (r : ℕ) (l : Latch). IsLatch new zero_place l) (latched q.reachables) p.seen
     pub words : known ≡ true → Meets new row → HasQueryWords f row first now q p
 
-  bad_pushed : (name : List ℕ) (m : Made) (b : Bool) → AreNumbered m.0 → BitAt row known m.0 m.1 b → length (with_bad name m) < greatest_id → AreNumbered (with_bad name m)
+  bad_pushed : (name : List ℕ) (m : Built) (b : Bool) → AreNumbered m.0 → BitAt row known m.0 m.1 b → length (with_bad name m) < greatest_id → AreNumbered (with_bad name m)
   bad_pushed name m b n at room =
       let suits : Suits m.0 line.Bad 0 (plain_arg m.1 ∷ []) (symbol_of name) = record { earlier = (wide_inside m.0 m.1 1 (omega arith) at.width, tt); sorts = (refl, at.width); symbol = symbol_is name } in
       let few : length m.0 < greatest_id = omega (arith, room, extends_long m.0 (with_bad name m) (one_more m.0 _)) in
@@ -198,7 +198,7 @@ module _ (f : PlainFlatSystem) (codes_fit : HaveCodes f.scope.enumerations) (fun
   latches_later : (a b : List Line) → Extends a b → (rs : List ℕ) (ls : List Latch) → AllLatched a rs ls → AllLatched b rs ls
   latches_later a b g rs ls x = zip_map (λ (r : ℕ) (l : Latch). IsLatch a zero_place l) (λ (r : ℕ) (l : Latch). IsLatch b zero_place l) (λ r l. latch_later a b zero_place l g) rs ls x
 
-  query_made : (lines : List Line) (q : Query) → IsSortedFlat f → IsWholeQuery (length f.assumptions) (length f.currents) (length f.reachables) q → AreNumbered lines → Ready lines → (b : Bool)
+  query_made : (lines : List Line) (q : Query) → IsSortedFlat f → IsValidQuery (length f.assumptions) (length f.currents) (length f.reachables) q → AreNumbered lines → Ready lines → (b : Bool)
       → let c = with_conditions f inputs lines q in let m = cond b (with_goal f inputs q (c.1 ∷ []) c.0 q.reachables) (with_goal f inputs q [] lines q.reachables) in
       length (with_bad q.name m) < greatest_id → QueryMade b lines (with_bad q.name m) q (places_if f inputs lines q b)
   query_made lines q sorted whole n v true room =
@@ -267,7 +267,7 @@ module _ (f : PlainFlatSystem) (codes_fit : HaveCodes f.scope.enumerations) (fun
     pub each : AllZip (IsQueryAt new) qs ps
     pub words : known ≡ true → Meets new row → AllZip (HasQueryWords f row first now) qs ps
 
-  pub queries_made : (lines : List Line) (qs : List Query) → IsSortedFlat f → AllByRecursion (IsWholeQuery (length f.assumptions) (length f.currents) (length f.reachables)) qs → AreNumbered lines → Ready lines
+  pub queries_made : (lines : List Line) (qs : List Query) → IsSortedFlat f → AllByRecursion (IsValidQuery (length f.assumptions) (length f.currents) (length f.reachables)) qs → AreNumbered lines → Ready lines
       → length (with_queries f inputs lines qs) < greatest_id → QueriesMade lines (with_queries f inputs lines qs) qs (all_places f inputs lines qs)
   queries_made lines [] sorted whole n v room = record { numbered = n; each = tt; words = λ k m. tt }
   queries_made lines (q ∷ qs) sorted whole n v room =

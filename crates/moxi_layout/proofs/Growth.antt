@@ -5,7 +5,7 @@ use Rattle.btor_tree.specs.declared.lines.Line.{Line}
 use Rattle.btor_tree.specs.declared.lines.LineOp.{LineOp}
 use Rattle.btor_tree.specs.declared.lines.LineOp.TheVariants as line
 use Rattle.btor_tree.specs.Fits.{count_of}
-use Rattle.btor_tree.specs.Sharing.{HasNoTwoAlike, next_line, placed, pushed, standing, with_sort}
+use Rattle.btor_tree.specs.Sharing.{HasNoDuplicates, next_line, placed, pushed, standing, with_sort}
 use Rattle.btor_tree.proofs.Alike.{pushed_distinct}
 use Rattle.btor_tree.proofs.Grows.{count_push}
 use Rattle.moxi_lines.proofs.Extending.{Extends, extends_none, extends_then}
@@ -38,7 +38,7 @@ pub record GrowsBy (n m : ℕ) (old new : List Line) : Type 0 where
   pub extends : Extends old new
   pub others : other_count new ≤ other_count old + n
   pub sorts : sort_count new ≤ sort_count old + m
-  pub alike : HasNoTwoAlike old → HasNoTwoAlike new
+  pub alike : HasNoDuplicates old → HasNoDuplicates new
 
 -- at most so many, each of which may bring a sort
 abbrev pub Grows : ℕ → List Line → List Line → Type 0
@@ -65,7 +65,7 @@ grows_more n m a b h g =
 
 -- ---- pushes
 
-line_grows : (n m : ℕ) (lines : List Line) (l : Line) → cond (is_other l.op) 1 0 ≤ n → cond (is_sort l.op) 1 0 ≤ m → (HasNoTwoAlike lines → HasNoTwoAlike (lines ++ l ∷ [])) → GrowsBy n m lines (lines ++ l ∷ [])
+line_grows : (n m : ℕ) (lines : List Line) (l : Line) → cond (is_other l.op) 1 0 ≤ n → cond (is_sort l.op) 1 0 ≤ m → (HasNoDuplicates lines → HasNoDuplicates (lines ++ l ∷ [])) → GrowsBy n m lines (lines ++ l ∷ [])
 unfolding sort_count other_count
 line_grows n m lines l h k d =
     record {
@@ -75,7 +75,7 @@ line_grows n m lines l h k d =
       alike = d;
     }
 
-placed_grows : (n m : ℕ) (lines : List Line) (l : Line) (found : Option ℕ) → cond (is_other l.op) 1 0 ≤ n → cond (is_sort l.op) 1 0 ≤ m → (HasNoTwoAlike lines → HasNoTwoAlike (placed found lines l).0)
+placed_grows : (n m : ℕ) (lines : List Line) (l : Line) (found : Option ℕ) → cond (is_other l.op) 1 0 ≤ n → cond (is_sort l.op) 1 0 ≤ m → (HasNoDuplicates lines → HasNoDuplicates (placed found lines l).0)
     → GrowsBy n m lines (placed found lines l).0
 placed_grows n m lines l (Some p) h k d = record { extends = extends_none lines; others = omega arith; sorts = omega arith; alike = d }
 placed_grows n m lines l None h k d = line_grows n m lines l h k d

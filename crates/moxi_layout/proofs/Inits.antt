@@ -11,14 +11,14 @@ use Rattle.btor_tree.specs.declared.lines.Line.{Line}
 use Rattle.btor_tree.specs.declared.lines.LineOp.{LineOp}
 use Rattle.btor_tree.specs.declared.lines.LineOp.TheVariants as line
 use Rattle.btor_tree.specs.Fits.{is_init, plain_arg, state_value, value_for}
-use Rattle.btor_tree.specs.Sharing.{GrowsQuietly, is_shared}
+use Rattle.btor_tree.specs.Sharing.{GrowsByShared, is_shared}
 use Rattle.btor_tree.proofs.Paths.{state_value_append}
 use Rattle.moxi_terms.specs.declared.term.Enumeration.{Enumeration}
 use Rattle.moxi_terms.specs.declared.term.Variable.{Variable}
 use Rattle.moxi_scripts.specs.declared.script.Query.{Query}
 use Rattle.moxi_scripts.specs.Script.{formula_at}
 use Rattle.moxi_flat.specs.FlatSystem.{PlainFlatSystem, PlainPart}
-use Rattle.moxi_lines.specs.TermLines.{Made, folded_lines, with_binary}
+use Rattle.moxi_lines.specs.TermLines.{Built, folded_lines, with_binary}
 use Rattle.moxi_lines.proofs.Growing.{grown_then}
 use Rattle.moxi_lines.specs.Lines.{Reaching, has_conditions, head_lines, one_place, with_all_met, with_assumptions, with_bad, with_conditions, with_currents, with_formula, with_given, with_goal, with_latch, with_one_met, with_queries, with_query, with_reachable, with_reachables, zero_place}
 use Rattle.moxi_lines.proofs.Extending.{Extends, extends_long, extends_none, extends_then, quietly}
@@ -29,7 +29,7 @@ use Rattle.moxi_layout.proofs.Conditions.{chain_grows_on, conditions_extend, for
 use Rattle.moxi_layout.proofs.Reachables.{reachable_extends, seen_grows, seen_name}
 use Rattle.moxi_layout.proofs.Goals.{all_met_grows, nothing_reached, one_met_grows, query_extends}
 
--- the states that stand in lines keep their inits behind more lines
+-- the states that are in lines keep their inits behind more lines
 pub record KeepsInits (old new : List Line) : Type 0 where
   pub long : length old ≤ length new
   pub same : (s : ℕ) → s < length old → state_value is_init new s ≡ state_value is_init old s
@@ -57,7 +57,7 @@ nothing_more : (a b more : List Line) (s : ℕ) → b ≡ a ++ more → state_va
 nothing_more a b more s e h =
     ap (λ ls. state_value is_init ls s) e ∙ state_value_append is_init a more s ∙ ap (option_or (state_value is_init a s)) h ∙ or_none (state_value is_init a s)
 
-quiet_keeps : (a b : List Line) → GrowsQuietly a b → KeepsInits a b
+quiet_keeps : (a b : List Line) → GrowsByShared a b → KeepsInits a b
 quiet_keeps a b g = record { long = extends_long a b (quietly a b g); same = λ s h. nothing_more a b g.0 s g.1 (quiet_init g.0 s g.2) }
 
 line_keeps : (lines : List Line) (l : Line) → is_init l.op ≡ false → KeepsInits lines (lines ++ l ∷ [])
@@ -79,7 +79,7 @@ latch_keeps lines name v g =
       long = omega (arith, k.long, extends_long more (more ++ l ∷ []) (record { more = l ∷ []; is = refl }));
       same = λ s h. nothing_more more (more ++ l ∷ []) (l ∷ []) s refl (ap (λ b. option_or (cond b (Some (plain_arg v)) None) None) (differs (length lines) s h)) ∙ k.same s h;
     } in
-    subst (λ (m : Made). KeepsInits lines m.0) (sym (latch_is lines name v g)) all
+    subst (λ (m : Built). KeepsInits lines m.0) (sym (latch_is lines name v g)) all
 
 next_keeps : (lines : List Line) (s p : ℕ) → Extends head_lines lines → KeepsInits lines (with_given lines line.Next 1 s p)
 next_keeps lines s p g = subst (KeepsInits lines) (sym (next_is lines s p g)) (line_keeps lines (given_line lines line.Next s p) refl)
@@ -122,7 +122,7 @@ module _ (f : PlainFlatSystem) (inputs : List ℕ) where
       quiet_keeps lines (with_one_met m before).0 (grown_then lines m.0 (with_one_met m before).0 (formula_grows f inputs lines (formula_at f.reachables r)) (one_met_grows f inputs m before))
   goal_keeps q before lines (r ∷ s ∷ rs) g = several_keep q before lines (r ∷ s ∷ rs) g
 
-  bad_keeps : (name : List ℕ) (m : Made) → KeepsInits m.0 (with_bad name m)
+  bad_keeps : (name : List ℕ) (m : Built) → KeepsInits m.0 (with_bad name m)
   bad_keeps name m = line_keeps m.0 _ refl
 
   query_keeps : (lines : List Line) (q : Query) → Extends head_lines lines → (b : Bool) → let c = with_conditions f inputs lines q in

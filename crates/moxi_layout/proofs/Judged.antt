@@ -20,7 +20,7 @@ use Rattle.moxi_flat.specs.FlatSystem.{PlainFlatSystem}
 use Rattle.moxi_lines.specs.Variables.{IsInside}
 use Rattle.moxi_layout.specs.Layout.{IsInRange, first_at, given, input_at, prior_at}
 use Rattle.moxi_layout.specs.LayoutLaws.{IsLaidOut}
-use Rattle.moxi_layout.specs.Witnesses.{LayoutsAreJudgedAlike}
+use Rattle.moxi_layout.specs.Witnesses.{LayoutsAreJudgedEqually}
 use Rattle.moxi_layout.proofs.Latches.{given_next, map_some, set_first}
 use Rattle.moxi_layout.proofs.Pairs.{AreAlike, WereInside, alike_back, all_nexts_same, bads_same, constraints_same, inits_same, range_same, same_inputs, same_states, state_of, variable_below}
 use Rattle.moxi_layout.proofs.RowLaws.{row_inside}
@@ -160,8 +160,8 @@ module _ (f : PlainFlatSystem) (lines other : List Line) (laid : IsLaidOut f lin
         ],
       )
 
-pub layouts_are_judged_alike_law : LayoutsAreJudgedAlike
-layouts_are_judged_alike_law f lines other a b w is v =
+pub layouts_are_judged_equally_law : LayoutsAreJudgedEqually
+layouts_are_judged_equally_law f lines other a b w is v =
     let e = same_sizes f lines other a b in
     let inputs = subst (λ (s : Sizes). AllByRecursion (λ (x : Frame). IsPart s.inputs x.inputs) w.frames) e is.inputs in
     let states = subst (λ (s : Sizes). AllByRecursion (λ (x : Frame). IsPart s.states x.states) w.frames) e is.states in (

@@ -9,12 +9,12 @@ use Rattle.btor_tree.specs.declared.lines.Line.{Line}
 use Rattle.btor_tree.specs.declared.lines.LineOp.{LineOp}
 use Rattle.btor_tree.specs.declared.lines.LineOp.TheVariants as line
 use Rattle.btor_tree.specs.Fits.{Suits, greatest_id, is_init, is_next, is_state, kind_at, plain_arg, sort_at, state_value, width_at}
-use Rattle.btor_tree.specs.Sharing.{GrowsQuietly, next_line, pushed, with_sort}
+use Rattle.btor_tree.specs.Sharing.{GrowsByShared, next_line, pushed, with_sort}
 use Rattle.btor_tree.proofs.AtPlaces.{is_kind, width_of_line}
 use Rattle.btor_tree.proofs.Equations.{pushed_fit}
 use Rattle.btor_tree.proofs.Grows.{slice_get_end}
 use Rattle.btor_tree.proofs.Paths.{fresh, state_value_append}
-use Rattle.moxi_lines.specs.TermLines.{Made}
+use Rattle.moxi_lines.specs.TermLines.{Built}
 use Rattle.moxi_lines.specs.TermLaws.{AreNumbered}
 use Rattle.moxi_lines.proofs.Growing.{wide_inside}
 use Rattle.moxi_lines.specs.Lines.{head_lines, symbol_of, with_free, with_given, with_latch}
@@ -28,7 +28,7 @@ use Rattle.moxi_lines.proofs.VariableLaws.{kind_extends, quiet_next}
 pub head_long : (lines : List Line) → Extends head_lines lines → 6 ≤ length lines
 head_long lines g = extends_long head_lines lines g
 
--- the sort of truth values stands at the first place
+-- the sort of truth values is at the first place
 sort_is : (lines : List Line) → Extends head_lines lines → with_sort lines 1 ≡ (lines, 0)
 sort_is lines g = subst (λ ls. with_sort ls 1 ≡ (ls, 0)) (sym g.is) refl
 
@@ -42,13 +42,13 @@ abbrev pub given_line : List Line → LineOp → ℕ → ℕ → Line
 given_line lines o s v = next_line lines o 0 (plain_arg s ∷ plain_arg v ∷ []) None
 
 free_is : (lines : List Line) (name : List ℕ) → Extends head_lines lines → with_free lines line.State 1 name ≡ (lines ++ state_line lines name ∷ [], length lines)
-free_is lines name g = ap (λ (m : Made). pushed m.0 line.State m.1 [] (symbol_of name)) (sort_is lines g)
+free_is lines name g = ap (λ (m : Built). pushed m.0 line.State m.1 [] (symbol_of name)) (sort_is lines g)
 
 init_is : (lines : List Line) (s v : ℕ) → Extends head_lines lines → with_given lines line.Init 1 s v ≡ lines ++ given_line lines line.Init s v ∷ []
-init_is lines s v g = ap (λ (m : Made). (pushed m.0 line.Init m.1 (plain_arg s ∷ plain_arg v ∷ []) None).0) (sort_is lines g)
+init_is lines s v g = ap (λ (m : Built). (pushed m.0 line.Init m.1 (plain_arg s ∷ plain_arg v ∷ []) None).0) (sort_is lines g)
 
 pub next_is : (lines : List Line) (s v : ℕ) → Extends head_lines lines → with_given lines line.Next 1 s v ≡ lines ++ given_line lines line.Next s v ∷ []
-next_is lines s v g = ap (λ (m : Made). (pushed m.0 line.Next m.1 (plain_arg s ∷ plain_arg v ∷ []) None).0) (sort_is lines g)
+next_is lines s v g = ap (λ (m : Built). (pushed m.0 line.Next m.1 (plain_arg s ∷ plain_arg v ∷ []) None).0) (sort_is lines g)
 
 abbrev pub with_state : List Line → List ℕ → List Line
 with_state lines name = lines ++ state_line lines name ∷ []
@@ -59,7 +59,7 @@ one_more lines l = record { more = l ∷ []; is = refl }
 pub latch_is : (lines : List Line) (name : List ℕ) (v : ℕ) → Extends head_lines lines
     → with_latch lines name v ≡ (with_state lines name ++ given_line (with_state lines name) line.Init (length lines) v ∷ [], length lines)
 latch_is lines name v g =
-    ap (λ (m : Made). (with_given m.0 line.Init 1 m.1 v, m.1)) (free_is lines name g)
+    ap (λ (m : Built). (with_given m.0 line.Init 1 m.1 v, m.1)) (free_is lines name g)
     ∙ ap (λ ls. (ls, length lines)) (init_is (with_state lines name) (length lines) v (extends_then head_lines lines (with_state lines name) g (one_more lines (state_line lines name))))
 
 -- ---- what stands of a latch before its next
@@ -74,7 +74,7 @@ pub value_extends : (kind : LineOp → Bool) (a b : List Line) (p : ℕ) (v : Ar
 value_extends kind a b p v g h =
     ap (λ ls. state_value kind ls p) g.is ∙ state_value_append kind a g.more p ∙ ap (λ o. option_or o (state_value kind g.more p)) h
 
-pub open_later : (a b : List Line) (s v : ℕ) → GrowsQuietly a b → IsOpen a s v → IsOpen b s v
+pub open_later : (a b : List Line) (s v : ℕ) → GrowsByShared a b → IsOpen a s v → IsOpen b s v
 open_later a b s v g o =
     record {
       state = kind_extends is_state a b s (quietly a b g) o.state;
@@ -94,7 +94,7 @@ latch_later a b v l g x =
 
 -- ---- a state and its init
 
-pub record Opened (lines : List Line) (m : Made) (v : ℕ) : Type 0 where
+pub record Opened (lines : List Line) (m : Built) (v : ℕ) : Type 0 where
   pub extends : Extends lines m.0
   pub numbered : AreNumbered m.0
   pub opens : IsOpen m.0 m.1 v
@@ -147,12 +147,12 @@ pub latch_opened : (lines : List Line) (name : List ℕ) (v : ℕ) → AreNumber
     → Opened lines (with_latch lines name v) v
 latch_opened lines name v n g small w room =
     let e = latch_is lines name v g in
-    subst (λ m. Opened lines m v) (sym e) (opened_at lines name v n g small w (subst (λ (m : Made). length m.0 < greatest_id) e room))
+    subst (λ m. Opened lines m v) (sym e) (opened_at lines name v n g small w (subst (λ (m : Built). length m.0 < greatest_id) e room))
 
 pub latch_extends : (lines : List Line) (name : List ℕ) (v : ℕ) → Extends head_lines lines → Extends lines (with_latch lines name v).0
 latch_extends lines name v g =
     let more = with_state lines name in
-    subst (λ (m : Made). Extends lines m.0) (sym (latch_is lines name v g))
+    subst (λ (m : Built). Extends lines m.0) (sym (latch_is lines name v g))
     (extends_then lines more _ (one_more lines (state_line lines name)) (one_more more (given_line more line.Init (length lines) v)))
 
 -- ---- its next

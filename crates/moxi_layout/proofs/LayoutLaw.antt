@@ -22,7 +22,7 @@ use Rattle.moxi_flat.specs.FlatSorts.{IsSortedFlat}
 use Rattle.moxi_flat.specs.FlatSystem.{PlainFlatSystem}
 use Rattle.moxi_lines.specs.Codes.{sort_bits}
 use Rattle.moxi_lines.specs.TermLines.{place_in}
-use Rattle.moxi_lines.specs.TermLaws.{AreNumbered, HaveCodes, VariablesStand}
+use Rattle.moxi_lines.specs.TermLaws.{AreNumbered, HaveCodes, VariablesAreRepresented}
 use Rattle.moxi_lines.specs.Lines.{first_place, head_lines, input_place, lines_of, one_place, state_place, variable_lines, with_parts, zero_place}
 use Rattle.moxi_lines.specs.Variables.{AreVariableLines, IsInside}
 use Rattle.moxi_lines.specs.Constraints.{VariablesAreThere}
@@ -137,10 +137,10 @@ module _ (f : PlainFlatSystem) (have : HaveCodes f.scope.enumerations) (sorted :
   abbrev none : Values
   none = zero_values f.variables
 
-  zeros : (place : ℕ → ℕ) → ((v : ℕ) (s : Sort) → slice_get (sorts_of f.variables) v ≡ Some s → width_at vl (place v) ≡ sort_bits es s) → VariablesStand es [] false vl (sorts_of f.variables) place none
+  zeros : (place : ℕ → ℕ) → ((v : ℕ) (s : Sort) → slice_get (sorts_of f.variables) v ≡ Some s → width_at vl (place v) ≡ sort_bits es s) → VariablesAreRepresented es [] false vl (sorts_of f.variables) place none
   zeros place widths = zeros_stand es have sorted.scope.enumerations f.variables sorted.variables vl place widths
 
-  zeros_now : VariablesStand es [] false vl (sorts_of f.variables) (input_place inputs) none
+  zeros_now : VariablesAreRepresented es [] false vl (sorts_of f.variables) (input_place inputs) none
   zeros_now = zeros (input_place inputs) (λ v s h. input_width es vl f.variables inputs v s lines_v.each h)
 
   n_pl : AreNumbered pl
@@ -231,10 +231,10 @@ module _ (f : PlainFlatSystem) (have : HaveCodes f.scope.enumerations) (sorted :
     decodes : Decodes es f.variables row vl inputs
     decodes = words_are_decoded_law es have sorted.scope.enumerations f.variables sorted.variables vl inputs lines_v.numbered lines_v.each row (extends_meets vl all row from_vl r.meets)
 
-    now_stand : (k : Bool) → VariablesStand es row k vl (sorts_of f.variables) (input_place inputs) now
-    now_stand k = subst (λ place. VariablesStand es row k vl (sorts_of f.variables) (input_place inputs) (decoded es f.variables row place)) (sym input_is) (decodes.now k (λ e. inside_now))
+    now_stand : (k : Bool) → VariablesAreRepresented es row k vl (sorts_of f.variables) (input_place inputs) now
+    now_stand k = subst (λ place. VariablesAreRepresented es row k vl (sorts_of f.variables) (input_place inputs) (decoded es f.variables row place)) (sym input_is) (decodes.now k (λ e. inside_now))
 
-    before_stand : VariablesStand es row (not first) vl (sorts_of f.variables) (state_place inputs) before
+    before_stand : VariablesAreRepresented es row (not first) vl (sorts_of f.variables) (state_place inputs) before
     before_stand =
         values_as es row (not first) vl (sorts_of f.variables) (state_place inputs) (decoded es f.variables row (state_place inputs)) before
         (λ v h. ap (λ p. decoded_datum es (slice_index_or (sorts_of f.variables) v Truth) (word_at row p)) (sym (prior_is v (omega (arith, h, sorts_long f.variables))))) (decodes.before (not first) inside_before)

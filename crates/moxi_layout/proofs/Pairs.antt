@@ -17,7 +17,7 @@ use Rattle.moxi_terms.specs.declared.data.Sort.{Sort}
 use Rattle.moxi_terms.specs.declared.data.Sort.TheVariants.{Truth}
 use Rattle.moxi_terms.specs.Tree.{sorts_of}
 use Rattle.moxi_scripts.specs.declared.script.Query.{Query}
-use Rattle.moxi_scripts.specs.Whole.{IsWholeQuery}
+use Rattle.moxi_scripts.specs.Valid.{IsValidQuery}
 use Rattle.moxi_flat.specs.FlatSorts.{PartIsSorted}
 use Rattle.moxi_flat.specs.FlatSystem.{PlainFlatSystem, PlainPart}
 use Rattle.moxi_lines.specs.TermLines.{place_in}
@@ -201,7 +201,7 @@ module _ (f : PlainFlatSystem) (lines other : List Line) (laid : IsLaidOut f lin
 
     -- the nexts give the same words, and the bad lines have the same ones
     abbrev Whole : Query → Type 0
-    Whole q = IsWholeQuery (length f.assumptions) (length f.currents) (length f.reachables) q
+    Whole q = IsValidQuery (length f.assumptions) (length f.currents) (length f.reachables) q
 
     latch_nexts_same : IsInRange f lines row → IsInRange f other next → (qs : List Query) → AllByRecursion Whole qs → (xs ys : List ℕ) (bs cs : List Arg) → AreQueriesLaid f lines qs xs bs → AreQueriesLaid f other qs ys cs
         → map (is_set row) xs ≡ map (is_set next) ys → map (given is_next lines row) xs ≡ map (given is_next other next) ys

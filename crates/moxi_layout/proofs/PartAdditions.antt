@@ -12,7 +12,7 @@ use Rattle.btor_tree.specs.declared.lines.Line.{Line}
 use Rattle.btor_tree.specs.declared.lines.LineOp.TheVariants as line
 use Rattle.btor_tree.specs.Fits.{IsWellFormed, greatest_id, last_id, plain_arg}
 use Rattle.btor_tree.specs.Frame.{Meets, operand, word_at}
-use Rattle.btor_tree.specs.Sharing.{GrowsQuietly, next_line}
+use Rattle.btor_tree.specs.Sharing.{GrowsByShared, next_line}
 use Rattle.btor_tree.proofs.Grows.{last_push, slice_get_end, well_formed_front}
 use Rattle.moxi_terms.specs.declared.data.Sort.TheVariants.{Truth}
 use Rattle.moxi_terms.specs.Sorted.{AreFunctions}
@@ -21,8 +21,8 @@ use Rattle.moxi_terms.specs.Value.{Values}
 use Rattle.moxi_terms.proofs.ValueLaws.{all_suit, value_sorted}
 use Rattle.moxi_flat.specs.FlatSorts.{IsFlatTruth, PartIsSorted}
 use Rattle.moxi_flat.specs.FlatSystem.{PlainFlatSystem, PlainPart}
-use Rattle.moxi_lines.specs.TermLines.{Made, with_binary}
-use Rattle.moxi_lines.specs.TermLaws.{AreNumbered, HaveCodes, VariablesStand}
+use Rattle.moxi_lines.specs.TermLines.{Built, with_binary}
+use Rattle.moxi_lines.specs.TermLaws.{AreNumbered, HaveCodes, VariablesAreRepresented}
 use Rattle.moxi_lines.proofs.Chains.{binary_grows}
 use Rattle.moxi_lines.proofs.Growing.{grown_then}
 use Rattle.moxi_lines.proofs.Terms.{calls_grow, term_grows, whole_made}
@@ -63,31 +63,31 @@ abbrev pub of_constraints : List Entry → List Arg → Added
 of_constraints es args = record { entries = es; inputs = []; states = []; constraints = args; bads = [] }
 
 -- the argument of a constraint, unless there is none
-abbrev pub arg_unless : Bool → Made → List Arg
+abbrev pub arg_unless : Bool → Built → List Arg
 arg_unless c m = cond c [] (plain_arg m.1 ∷ [])
 
-pub constraint_adds : (lines : List Line) (m : Made) (c : Bool) → GrowsQuietly lines m.0 → Adds lines (cond c lines (with_constraint m)) (of_constraints (constraint_if (not c)) (arg_unless c m))
+pub constraint_adds : (lines : List Line) (m : Built) (c : Bool) → GrowsByShared lines m.0 → Adds lines (cond c lines (with_constraint m)) (of_constraints (constraint_if (not c)) (arg_unless c m))
 constraint_adds lines m true g = adds_none lines
 constraint_adds lines m false g =
     adds_then lines m.0 (with_constraint m) _ _ (adds_quietly lines m.0 g) (adds_line m.0 (next_line m.0 line.Constraint 0 (plain_arg m.1 ∷ []) _) 0 (λ all x. refl))
 
 module _ (f : PlainFlatSystem) (inputs : List ℕ) where
-  abbrev init_g : List Line → Tree → Made
+  abbrev init_g : List Line → Tree → Built
   init_g lines t = let m = with_formula f.scope inputs lines t in with_binary two.Implies m.0 first_place m.1
 
-  abbrev step_m : List Line → Tree → Made
+  abbrev step_m : List Line → Tree → Built
   step_m lines t = with_step f.scope inputs lines t
 
-  abbrev trans_g : List Line → Tree → Made
+  abbrev trans_g : List Line → Tree → Built
   trans_g lines t = let m = step_m lines t in with_binary two.Or m.0 first_place m.1
 
-  init_grows : (lines : List Line) (t : Tree) → GrowsQuietly lines (init_g lines t).0
+  init_grows : (lines : List Line) (t : Tree) → GrowsByShared lines (init_g lines t).0
   init_grows lines t = let m = with_formula f.scope inputs lines t in grown_then lines m.0 (init_g lines t).0 (formula_grows f inputs lines t) (binary_grows two.Implies m.0 first_place m.1)
 
-  step_grows : (lines : List Line) (t : Tree) → GrowsQuietly lines (step_m lines t).0
+  step_grows : (lines : List Line) (t : Tree) → GrowsByShared lines (step_m lines t).0
   step_grows lines t = term_grows _ _ (calls_grow _ f.scope.functions (length f.scope.functions)) (state_place inputs) (input_place inputs) [] lines t
 
-  trans_grows : (lines : List Line) (t : Tree) → GrowsQuietly lines (trans_g lines t).0
+  trans_grows : (lines : List Line) (t : Tree) → GrowsByShared lines (trans_g lines t).0
   trans_grows lines t = let m = step_m lines t in grown_then lines m.0 (trans_g lines t).0 (step_grows lines t) (binary_grows two.Or m.0 first_place m.1)
 
   abbrev part_args : List Line → PlainPart → List Arg
@@ -130,12 +130,12 @@ both_mapped g h a b c d p q = map-append g a b ∙ ap (λ z. z ++ map g b) p ∙
 
 module _ (f : PlainFlatSystem) (codes_fit : HaveCodes f.scope.enumerations) (functions : AreFunctions f.scope.enumerations f.scope.functions) (inputs : List ℕ) (row : List BitVector) (known both first : Bool) (before now : Values)
     (all : List Line) (n_all : AreNumbered all) (room : length all < greatest_id) where
-  -- what stands in lines for formulas of one step and of two
+  -- what is in lines for formulas of one step and of two
   pub record StepsStand (lines : List Line) : Type 0 where
     pub stands : Stands f codes_fit functions inputs row known first now lines
     pub later : first ≡ false → known ≡ true → both ≡ true
-    pub now_both : VariablesStand f.scope.enumerations row both lines (sorts_of f.variables) (input_place inputs) now
-    pub before_both : VariablesStand f.scope.enumerations row both lines (sorts_of f.variables) (state_place inputs) before
+    pub now_both : VariablesAreRepresented f.scope.enumerations row both lines (sorts_of f.variables) (input_place inputs) now
+    pub before_both : VariablesAreRepresented f.scope.enumerations row both lines (sorts_of f.variables) (state_place inputs) before
 
   steps_later : (a b : List Line) → Extends a b → StepsStand a → StepsStand b
   steps_later a b g v =
@@ -152,7 +152,7 @@ module _ (f : PlainFlatSystem) (codes_fit : HaveCodes f.scope.enumerations) (fun
   front : (a : List Line) → Extends a all → AreNumbered a
   front a g = numbered_front a all g n_all
 
-  constraint_word : (c : Bool) (lines : List Line) (m : Made) (b : Bool) → Extends (cond c lines (with_constraint m)) all → (Extends m.0 all → BitAt row known m.0 m.1 b) → known ≡ true → Meets all row
+  constraint_word : (c : Bool) (lines : List Line) (m : Built) (b : Bool) → Extends (cond c lines (with_constraint m)) all → (Extends m.0 all → BitAt row known m.0 m.1 b) → known ≡ true → Meets all row
       → map (operand row) (arg_unless c m) ≡ map truth_word (cond c [] (b ∷ []))
   constraint_word true lines m b g at k met = refl
   constraint_word false lines m b g at k met =

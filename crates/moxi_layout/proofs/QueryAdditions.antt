@@ -11,7 +11,7 @@ use Rattle.btor_tree.specs.Sharing.{next_line}
 use Rattle.moxi_scripts.specs.declared.script.Query.{Query}
 use Rattle.moxi_scripts.specs.Script.{formula_at}
 use Rattle.moxi_flat.specs.FlatSystem.{PlainFlatSystem}
-use Rattle.moxi_lines.specs.TermLines.{Made, folded_lines, with_binary}
+use Rattle.moxi_lines.specs.TermLines.{Built, folded_lines, with_binary}
 use Rattle.moxi_lines.proofs.Growing.{grown_then}
 use Rattle.moxi_lines.specs.Lines.{Reaching, has_conditions, head_lines, one_place, symbol_of, with_all_met, with_assumptions, with_bad, with_conditions, with_currents, with_formula, with_given, with_goal, with_latch, with_one_met, with_queries, with_query, with_reachable, with_reachables, zero_place}
 use Rattle.moxi_lines.proofs.Extending.{Extends, extends_then}
@@ -50,7 +50,7 @@ latch_adds lines name v g =
     let g2 = extends_then head_lines more (more ++ l ∷ []) g1 (one_more more l) in
     let a = adds_line lines (state_line lines name) 1 (λ all x. head_sort all (extends_then head_lines more all g1 x)) in
     let b = adds_line more l 1 (λ all x. head_sort all (extends_then head_lines (more ++ l ∷ []) all g2 x)) in
-    subst (λ (m : Made). Adds lines m.0 (of_states (entry line.State 1 (symbol_of name) ∷ entry line.Init 1 None ∷ []) (m.1 ∷ []))) (sym (latch_is lines name v g)) (adds_then lines more (more ++ l ∷ []) _ _ a b)
+    subst (λ (m : Built). Adds lines m.0 (of_states (entry line.State 1 (symbol_of name) ∷ entry line.Init 1 None ∷ []) (m.1 ∷ []))) (sym (latch_is lines name v g)) (adds_then lines more (more ++ l ∷ []) _ _ a b)
 
 next_adds : (lines : List Line) (s p : ℕ) → Extends head_lines lines → Adds lines (with_given lines line.Next 1 s p) (of_states (entry line.Next 1 None ∷ []) [])
 next_adds lines s p g =
@@ -112,7 +112,7 @@ module _ (f : PlainFlatSystem) (inputs : List ℕ) where
         bads = plain_arg p.goal ∷ [];
       }
 
-  bad_adds : (name : List ℕ) (m : Made) → Adds m.0 (with_bad name m) (record { entries = entry line.Bad 0 (symbol_of name) ∷ []; inputs = []; states = []; constraints = []; bads = plain_arg m.1 ∷ [] })
+  bad_adds : (name : List ℕ) (m : Built) → Adds m.0 (with_bad name m) (record { entries = entry line.Bad 0 (symbol_of name) ∷ []; inputs = []; states = []; constraints = []; bads = plain_arg m.1 ∷ [] })
   bad_adds name m = adds_line m.0 (next_line m.0 line.Bad 0 (plain_arg m.1 ∷ []) (symbol_of name)) 0 (λ all x. refl)
 
   abbrev ok_names : Query → Bool → List (List ℕ)

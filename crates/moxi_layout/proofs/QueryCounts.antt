@@ -14,7 +14,7 @@ use Rattle.moxi_flat.specs.Terms.{call_sizes, term_size}
 use Rattle.moxi_flat.specs.Systems.{named_size}
 use Rattle.moxi_flat.specs.FlatSorts.{AreFlatTruths, IsFlatTruth, IsSortedFlat}
 use Rattle.moxi_flat.specs.FlatSystem.{PlainFlatSystem}
-use Rattle.moxi_lines.specs.TermLines.{AllMade, Made, chain_lines, folded_lines, with_binary}
+use Rattle.moxi_lines.specs.TermLines.{AllBuilt, Built, chain_lines, folded_lines, with_binary}
 use Rattle.moxi_lines.specs.Lines.{Reaching, first_place, formula_name, has_conditions, one_place, symbol_of, with_all_met, with_assumptions, with_bad, with_conditions, with_currents, with_formula, with_free, with_given, with_goal, with_latch, with_one_met, with_queries, with_query, with_reachable, with_reachables, zero_place}
 use Rattle.moxi_layout.specs.Counts.{NamesOneFormula, flat_query_size}
 use Rattle.moxi_layout.proofs.Growth.{Grows, grows_more, grows_none, grows_then, push_grows}
@@ -22,7 +22,7 @@ use Rattle.moxi_layout.proofs.Chains.{binary_counts, chain_counts, folded_counts
 use Rattle.moxi_layout.proofs.TermCounts.{Counts, HasHead, head_stays}
 use Rattle.moxi_layout.proofs.Systems.{formula_here, free_counts, given_counts}
 
-pub bad_counts : (name : List ℕ) (m : Made) → Grows 1 m.0 (with_bad name m)
+pub bad_counts : (name : List ℕ) (m : Built) → Grows 1 m.0 (with_bad name m)
 bad_counts name m = push_grows m.0 line.Bad 0 (plain_arg m.1 ∷ []) (symbol_of name) refl
 
 latch_counts : (lines : List Line) (name : List ℕ) (p : ℕ) → Grows 2 lines (with_latch lines name p).0
@@ -52,15 +52,15 @@ module _ (f : PlainFlatSystem) (sorted : IsSortedFlat f) (inputs : List ℕ) whe
   -- ---- conditions
 
   -- so many lines, and one place more for each formula
-  record AllCount (spared size more : ℕ) (old new : AllMade) : Type 0 where
+  record AllCount (spared size more : ℕ) (old new : AllBuilt) : Type 0 where
     counts : Counts spared size old.0 new.0
     places : length new.1 ≡ length old.1 + more
 
-  assumptions_count : (m : AllMade) (is : List ℕ) → HasHead m.0 → AllCount (2 * length is) (named_size (call_sizes f.scope) f.assumptions is) (length is) m (with_assumptions f inputs m is)
+  assumptions_count : (m : AllBuilt) (is : List ℕ) → HasHead m.0 → AllCount (2 * length is) (named_size (call_sizes f.scope) f.assumptions is) (length is) m (with_assumptions f inputs m is)
   assumptions_count m [] head = record { counts = record { count = 0; grows = grows_none m.0; few = omega arith }; places = omega arith }
   assumptions_count m (i ∷ is) head =
       let n = with_formula f.scope inputs m.0 (formula_at f.assumptions i) in
-      let next : AllMade = (n.0, m.1 ++ n.1 ∷ []) in
+      let next : AllBuilt = (n.0, m.1 ++ n.1 ∷ []) in
       let r = formula_counted f.assumptions sorted.assumptions m.0 i head in
       let q = assumptions_count next is (head_stays r.count m.0 n.0 r.grows head) in
       let a = r.few in
@@ -75,12 +75,12 @@ module _ (f : PlainFlatSystem) (sorted : IsSortedFlat f) (inputs : List ℕ) whe
         places = omega (arith, c, all_long m.1 n.1 (length is));
       }
 
-  currents_count : (m : AllMade) (is : List ℕ) → HasHead m.0 → AllCount (length is) (named_size (call_sizes f.scope) f.currents is) (length is) m (with_currents f inputs m is)
+  currents_count : (m : AllBuilt) (is : List ℕ) → HasHead m.0 → AllCount (length is) (named_size (call_sizes f.scope) f.currents is) (length is) m (with_currents f inputs m is)
   currents_count m [] head = record { counts = record { count = 0; grows = grows_none m.0; few = omega arith }; places = omega arith }
   currents_count m (i ∷ is) head =
       let n = with_formula f.scope inputs m.0 (formula_at f.currents i) in
       let g = with_binary two.Implies n.0 first_place n.1 in
-      let next : AllMade = (g.0, m.1 ++ g.1 ∷ []) in
+      let next : AllBuilt = (g.0, m.1 ++ g.1 ∷ []) in
       let r = formula_counted f.currents sorted.currents m.0 i head in
       let one = grows_then r.count 1 m.0 n.0 g.0 r.grows (binary_counts two.Implies n.0 first_place n.1) in
       let q = currents_count next is (head_stays (r.count + 1) m.0 g.0 one head) in
@@ -179,7 +179,7 @@ module _ (f : PlainFlatSystem) (sorted : IsSortedFlat f) (inputs : List ℕ) whe
       (subst (λ n. Grows (n - 1) m.lines all.0) (length-append before m.seen) (chain_counts two.And m.lines (before ++ m.seen)))
       (grows_then (length m.formulas - 1) 1 all.0 some.0 both.0 (chain_counts two.Or all.0 m.formulas) (binary_counts two.And some.0 all.1 some.1))
 
-  one_met_counts : (m : Made) (before : List ℕ) → Grows (length before) m.0 (with_one_met m before).0
+  one_met_counts : (m : Built) (before : List ℕ) → Grows (length before) m.0 (with_one_met m before).0
   one_met_counts m [] = grows_none m.0
   one_met_counts m (p ∷ ps) =
       grows_more 1 (suc (length ps)) m.0 (with_binary two.And m.0 p m.1).0 (omega arith) (binary_counts two.And m.0 p m.1)
@@ -215,7 +215,7 @@ module _ (f : PlainFlatSystem) (sorted : IsSortedFlat f) (inputs : List ℕ) whe
       (grows_then c.count (length before) lines m.0 (with_one_met m before).0 c.grows (one_met_counts m before))
   goal_counts q before lines (r ∷ s ∷ rs) le head = several_count q before lines (r ∷ s ∷ rs) le head
 
-  made_counts : (b : Bool) (n : ℕ) (lines : List Line) (x y : Made) → Grows n lines x.0 → Grows n lines y.0 → Grows n lines (cond b x y).0
+  made_counts : (b : Bool) (n : ℕ) (lines : List Line) (x y : Built) → Grows n lines x.0 → Grows n lines y.0 → Grows n lines (cond b x y).0
   made_counts true n lines x y g h = g
   made_counts false n lines x y g h = h
 
@@ -225,7 +225,7 @@ module _ (f : PlainFlatSystem) (sorted : IsSortedFlat f) (inputs : List ℕ) whe
       let g = with_goal f inputs q (c.1 ∷ []) c.0 q.reachables in
       let h = with_goal f inputs q [] lines q.reachables in
       let b = has_conditions q.assumptions q.currents in
-      let m : Made = cond b g h in
+      let m : Built = cond b g h in
       let k = 3 + (2 * named_size (call_sizes f.scope) f.assumptions q.assumptions + 2 * named_size (call_sizes f.scope) f.currents q.currents) in
       let j = 6 * named_size (call_sizes f.scope) f.reachables q.reachables + 1 in
       let x = conditions_count lines q head in
@@ -255,7 +255,7 @@ module _ (f : PlainFlatSystem) (sorted : IsSortedFlat f) (inputs : List ℕ) whe
   pub none_given : (q : Query) → NamesOneFormula q → has_conditions q.assumptions q.currents ≡ false
   none_given q h = ap (λ xs. has_conditions xs q.currents) h.assumptions ∙ ap (has_conditions []) h.currents
 
-  second_counts : (b : Bool) (n : ℕ) (lines : List Line) (x y : Made) → b ≡ false → Grows n lines y.0 → Grows n lines (cond b x y).0
+  second_counts : (b : Bool) (n : ℕ) (lines : List Line) (x y : Built) → b ≡ false → Grows n lines y.0 → Grows n lines (cond b x y).0
   second_counts true n lines x y e g = absurd (cc)
   second_counts false n lines x y e g = g
 
@@ -265,7 +265,7 @@ module _ (f : PlainFlatSystem) (sorted : IsSortedFlat f) (inputs : List ℕ) whe
       let g = with_goal f inputs q (c.1 ∷ []) c.0 q.reachables in
       let h = with_goal f inputs q [] lines q.reachables in
       let b = has_conditions q.assumptions q.currents in
-      let m : Made = cond b g h in
+      let m : Built = cond b g h in
       let x = one_goal q lines q.reachables names.reachables head in
       let few = x.few in
       grows_more (x.count + 1) (2 * flat_query_size (call_sizes f.scope) f q) lines (with_bad q.name m) (omega (arith, few))

@@ -6,7 +6,7 @@ use Rattle.moxi_terms.specs.Tree.{sorts_of}
 use Rattle.moxi_terms.specs.Value.{Values}
 use Rattle.moxi_scripts.specs.declared.script.Query.{Query}
 use Rattle.moxi_scripts.specs.Script.{PlainFormula, calls_in, formula_at}
-use Rattle.moxi_scripts.specs.Whole.{IsWholeQuery}
+use Rattle.moxi_scripts.specs.Valid.{IsValidQuery}
 use Rattle.moxi_flat.specs.FlatSorts.{AreFlatTruths, IsSortedFlat}
 use Rattle.moxi_flat.specs.FlatSystem.{PlainFlatSystem}
 use Rattle.moxi_lines.specs.Lines.{has_conditions}
@@ -34,7 +34,7 @@ module _ (f : PlainFlatSystem) (sorted : IsSortedFlat f) (a b : Values) (agree :
   upto_same (r ∷ rs) [] e = ap (λ x. x ∷ reached_upto f a rs []) e.0 ∙ ap (λ xs. is_reached f b r ∷ xs) (upto_same rs [] e.1)
   upto_same (r ∷ rs) (l ∷ ls) e = ap (λ x. (l || x) ∷ reached_upto f a rs ls) e.0 ∙ ap (λ xs. (l || is_reached f b r) ∷ xs) (upto_same rs ls e.1)
 
-  module _ (q : Query) (w : IsWholeQuery (length f.assumptions) (length f.currents) (length f.reachables) q) (first : Bool) (ls : List Bool) where
+  module _ (q : Query) (w : IsValidQuery (length f.assumptions) (length f.currents) (length f.reachables) q) (first : Bool) (ls : List Bool) where
     reached_each : AllByRecursion (λ r. is_reached f a r ≡ is_reached f b r) q.reachables
     reached_each = all_weaken (λ (i : ℕ). i < length f.reachables) (λ r. is_reached f a r ≡ is_reached f b r) q.reachables (λ i l. test_same f.reachables sorted.reachables i l) w.reachables_there
 

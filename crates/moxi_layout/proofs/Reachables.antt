@@ -9,13 +9,13 @@ use Rattle.word_core.specs.declared.kinds.Binary.TheVariants as two
 use Rattle.btor_tree.specs.declared.lines.Line.{Line}
 use Rattle.btor_tree.specs.declared.lines.LineOp.TheVariants as line
 use Rattle.btor_tree.specs.Fits.{greatest_id}
-use Rattle.btor_tree.specs.Sharing.{GrowsQuietly}
+use Rattle.btor_tree.specs.Sharing.{GrowsByShared}
 use Rattle.moxi_terms.specs.Sorted.{AreFunctions}
 use Rattle.moxi_terms.specs.Value.{Values}
 use Rattle.moxi_scripts.specs.Script.{formula_at}
 use Rattle.moxi_flat.specs.FlatSorts.{AreFlatTruths}
 use Rattle.moxi_flat.specs.FlatSystem.{PlainFlatSystem}
-use Rattle.moxi_lines.specs.TermLines.{Made, chain_lines, with_binary}
+use Rattle.moxi_lines.specs.TermLines.{Built, chain_lines, with_binary}
 use Rattle.moxi_lines.specs.TermLaws.{AreNumbered, HaveCodes}
 use Rattle.moxi_lines.proofs.Chains.{binary_grows, chain_grows}
 use Rattle.moxi_lines.proofs.Growing.{grown_long, grown_then}
@@ -44,7 +44,7 @@ seen_latches f inputs name m (r ∷ rs) = seen_latch f inputs name m r ∷ seen_
 
 module _ (f : PlainFlatSystem) (inputs : List ℕ) (name : List ℕ) where
   -- from the latch's init to the gate of the formula
-  pub seen_grows : (lines : List Line) (s r : ℕ) → let n = with_formula f.scope inputs lines (formula_at f.reachables r) in GrowsQuietly lines (with_binary two.Or n.0 s n.1).0
+  pub seen_grows : (lines : List Line) (s r : ℕ) → let n = with_formula f.scope inputs lines (formula_at f.reachables r) in GrowsByShared lines (with_binary two.Or n.0 s n.1).0
   seen_grows lines s r =
       let n = with_formula f.scope inputs lines (formula_at f.reachables r) in
       grown_then lines n.0 (with_binary two.Or n.0 s n.1).0 (formula_grows f inputs lines (formula_at f.reachables r)) (binary_grows two.Or n.0 s n.1)
@@ -176,7 +176,7 @@ module _ (f : PlainFlatSystem) (codes_fit : HaveCodes f.scope.enumerations) (fun
   HeldAt lines (p ∷ []) held = BitAt row known lines p held
   HeldAt lines ps held = ⊥
 
-  pub one_met_made : (m : Made) (b : Bool) (before : List ℕ) (held : Bool) → AreNumbered m.0 → BitAt row known m.0 m.1 b → HeldAt m.0 before held → length (with_one_met m before).0 < greatest_id
+  pub one_met_made : (m : Built) (b : Bool) (before : List ℕ) (held : Bool) → AreNumbered m.0 → BitAt row known m.0 m.1 b → HeldAt m.0 before held → length (with_one_met m before).0 < greatest_id
       → AreNumbered (with_one_met m before).0 × BitAt row known (with_one_met m before).0 (with_one_met m before).1 (held && b)
   one_met_made m b [] held n at h room = (n, subst (λ c. BitAt row known m.0 m.1 (c && b)) (sym h) at)
   one_met_made m b (p ∷ []) held n at h room = let g = gate row known two.And (λ x y. x && y) refl refl and_bit m.0 p m.1 held b n h at room in (g.numbered, g.at)

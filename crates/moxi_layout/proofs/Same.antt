@@ -7,7 +7,7 @@ use Rattle.moxi_terms.specs.Tree.{sorts_of}
 use Rattle.moxi_scripts.specs.declared.script.Query.{Query}
 use Rattle.moxi_scripts.specs.Script.{PlainFormula, calls_in, formula_at}
 use Rattle.moxi_scripts.specs.Behaviour.{Holds, Trace}
-use Rattle.moxi_scripts.specs.Whole.{IsWholeQuery}
+use Rattle.moxi_scripts.specs.Valid.{IsValidQuery}
 use Rattle.moxi_flat.specs.FlatMeeting.{MeetsFlat, PartHolds, ReachesFlat}
 use Rattle.moxi_flat.specs.FlatSorts.{AreFlatTruths, IsSortedFlat, PartIsSorted}
 use Rattle.moxi_flat.specs.FlatSystem.{PlainFlatSystem, PlainPart}
@@ -39,7 +39,7 @@ module _ (f : PlainFlatSystem) (sorted : IsSortedFlat f) (k : ℕ) (a b : Trace)
         inv = λ j l. let m : j ≤ k = omega (arith, l) in holds_same f (a j) (b j) (a j) (b j) p.inv (agree j m) (agree j m) s.inv (h.inv j l);
       }
 
-  pub meets_same : (q : Query) → IsWholeQuery (length f.assumptions) (length f.currents) (length f.reachables) q → MeetsFlat f q k a → MeetsFlat f q k b
+  pub meets_same : (q : Query) → IsValidQuery (length f.assumptions) (length f.currents) (length f.reachables) q → MeetsFlat f q k a → MeetsFlat f q k b
   meets_same q w m =
       let z : 0 ≤ k = omega arith in
       record {

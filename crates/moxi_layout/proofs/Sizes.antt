@@ -1,4 +1,4 @@
--- Lines that stand in a system's order have its widths, so that texts are read alike for all of them.
+-- Lines that are in a system's order have its widths, so that texts are read equally for all of them.
 use Rattle.std.proofs.Common.{◌≡◌, ℕ, suc, ◌+◌, ◌<◌, ◌≤◌, Bool, true, false, cond, List, [], ◌∷◌, ◌++◌, map, length, take, Some, refl, sym, ap, ◌∙◌, subst, arith, inl, inr}
 use Rattle.std.specs.Prelude.{slice_get, flat_map}
 use Rattle.std.proofs.lemmas.List.{length-append}
@@ -24,7 +24,7 @@ use Rattle.moxi_lines.specs.Lines.{symbol_of}
 use Rattle.std.specs.Prelude.{codes}
 use Rattle.moxi_layout.specs.Skeleton.{Entry, constraint_if, entries_in, entry, entry_of, entry_width, has_gap, is_ordered, part_entries, query_entries, skeleton, skeleton_of, variable_entries}
 use Rattle.moxi_layout.specs.LayoutLaws.{IsLaidOut}
-use Rattle.moxi_layout.specs.Witnesses.{LayoutsAreReadAlike}
+use Rattle.moxi_layout.specs.Witnesses.{LayoutsAreReadEqually}
 use Rattle.moxi_layout.proofs.Entries.{entries_cons, entries_long, input_is, input_ordered, of_append, of_flat, of_kind, singles_long}
 
 state_ordered : (o : LineOp) → is_state o ≡ true → is_ordered o ≡ true
@@ -74,8 +74,8 @@ sizes_are lines =
 pub same_sizes : (f : PlainFlatSystem) (lines other : List Line) → IsLaidOut f lines → IsLaidOut f other → sizes_of lines ≡ sizes_of other
 same_sizes f lines other a b = sym (sizes_are lines) ∙ ap sizes_from (a.lays.order ∙ sym b.lays.order) ∙ sizes_are other
 
-pub layouts_are_read_alike_law : LayoutsAreReadAlike
-layouts_are_read_alike_law f lines other a b =
+pub layouts_are_read_equally_law : LayoutsAreReadEqually
+layouts_are_read_equally_law f lines other a b =
     let e = same_sizes f lines other a b in
     record {
       sizes = e;

@@ -8,7 +8,7 @@ use Rattle.btor_tree.specs.declared.lines.Line.{Line}
 use Rattle.btor_tree.specs.declared.lines.LineOp.{LineOp}
 use Rattle.btor_tree.specs.declared.lines.LineOp.TheVariants as line
 use Rattle.btor_tree.specs.Fits.{IsWellFormed, OpFits, count_of}
-use Rattle.btor_tree.specs.Sharing.{HasNoTwoAlike, is_shared}
+use Rattle.btor_tree.specs.Sharing.{HasNoDuplicates, is_shared}
 use Rattle.moxi_layout.proofs.Growth.{is_sort, sort_count, sort_is}
 
 -- a sort below a width, or of a width
@@ -33,7 +33,7 @@ formed_plain lines formed = record { each = λ i l h. fits_plain (take i lines) 
 plain_rest : (l : Line) (ls : List Line) → HasPlainSorts (l ∷ ls) → HasPlainSorts ls
 plain_rest l ls p = record { each = λ i m h. p.each (suc i) m h }
 
-alike_rest : (l : Line) (ls : List Line) → HasNoTwoAlike (l ∷ ls) → HasNoTwoAlike ls
+alike_rest : (l : Line) (ls : List Line) → HasNoDuplicates (l ∷ ls) → HasNoDuplicates ls
 alike_rest l ls d = record { by_places = λ i j x y g h s t. let e = d.by_places (suc i) (suc j) x y g h s t in omega (arith, e) }
 
 width_is : (n : ℕ) (o : LineOp) → has_width n o ≡ true → o ≡ line.Sort n
@@ -52,7 +52,7 @@ one_most : (b : Bool) → cond b 1 0 ≤ 1
 one_most true = omega arith
 one_most false = omega arith
 
-one_of : (n : ℕ) (ls : List Line) → HasNoTwoAlike ls → HasPlainSorts ls → count_of (has_width n) ls ≤ 1
+one_of : (n : ℕ) (ls : List Line) → HasNoDuplicates ls → HasPlainSorts ls → count_of (has_width n) ls ≤ 1
 one_of n [] d p = omega arith
 one_of n (l ∷ ls) d p = by (one_of n ls (alike_rest l ls d) (plain_rest l ls p)) (has_width n l.op) refl
   where
@@ -99,7 +99,7 @@ counts_none : (ls : List Line) → count_of (is_below 0) ls ≤ 0
 counts_none [] = omega arith
 counts_none (l ∷ ls) = omega (arith, none_below l.op, counts_none ls)
 
-counts_below : (n : ℕ) (ls : List Line) → HasNoTwoAlike ls → HasPlainSorts ls → count_of (is_below n) ls ≤ n
+counts_below : (n : ℕ) (ls : List Line) → HasNoDuplicates ls → HasPlainSorts ls → count_of (is_below n) ls ≤ n
 counts_below zero ls d p = counts_none ls
 counts_below (suc n) ls d p = omega (arith, counts_next n ls, counts_below n ls d p, one_of n ls d p)
 
@@ -117,5 +117,5 @@ counts_all [] p = omega arith
 counts_all (l ∷ ls) p = omega (arith, all_below l.op (λ w e. (p.each 0 l refl w e).0), counts_all ls (plain_rest l ls p))
 
 -- no more sorts than widths
-pub sorts_few : (lines : List Line) → HasNoTwoAlike lines → HasPlainSorts lines → sort_count lines ≤ suc WIDEST
+pub sorts_few : (lines : List Line) → HasNoDuplicates lines → HasPlainSorts lines → sort_count lines ≤ suc WIDEST
 sorts_few lines d p = let a = counts_all lines p in let b = counts_below (suc WIDEST) lines d p in omega (arith, a, b)

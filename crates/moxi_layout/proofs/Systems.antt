@@ -19,7 +19,7 @@ use Rattle.moxi_flat.specs.FlatSizes.{part_size}
 use Rattle.moxi_flat.specs.FlatSorts.{IsFlatTruth, PartIsSorted}
 use Rattle.moxi_flat.specs.FlatSystem.{PlainFlatSystem, PlainPart}
 use Rattle.moxi_lines.specs.Codes.{choice_width, constant_count, sort_bits}
-use Rattle.moxi_lines.specs.TermLines.{AllMade, Made, with_binary, with_constant}
+use Rattle.moxi_lines.specs.TermLines.{AllBuilt, Built, with_binary, with_constant}
 use Rattle.moxi_lines.specs.Lines.{first_place, input_place, is_true_term, state_place, symbol_of, with_code, with_constraint, with_formula, with_free, with_given, with_init, with_inv, with_part, with_parts, with_state, with_step, with_trans, with_variable, with_variables}
 use Rattle.moxi_layout.proofs.Growth.{Grows, grows_more, grows_none, grows_then, is_sort, push_grows, sorted_grows}
 use Rattle.moxi_layout.proofs.Chains.{binary_counts, word_counts}
@@ -31,7 +31,7 @@ free_counts lines o w name h = sorted_grows lines o w [] (symbol_of name) h
 pub given_counts : (lines : List Line) (o : LineOp) (w s p : ℕ) → is_sort o ≡ false → Grows 1 lines (with_given lines o w s p)
 given_counts lines o w s p h = sorted_grows lines o w (plain_arg s ∷ plain_arg p ∷ []) None h
 
-constraint_counts : (m : Made) → Grows 1 m.0 (with_constraint m)
+constraint_counts : (m : Built) → Grows 1 m.0 (with_constraint m)
 constraint_counts m = push_grows m.0 line.Constraint 0 (plain_arg m.1 ∷ []) None refl
 
 pub either_counts : (b : Bool) (n : ℕ) (lines x y : List Line) → Grows n lines x → Grows n lines y → Grows n lines (cond b x y)
@@ -51,7 +51,7 @@ code_counts es (Choice n) lines p =
     (grows_then 1 2 lines m.0 (with_constraint c) (word_counts lines (line.Constant (record { width = choice_width count; bits = count })) (choice_width count) [] refl)
     (grows_then 1 1 m.0 c.0 (with_constraint c) (binary_counts two.Ult m.0 p m.1) (constraint_counts c)))
 
-state_counts : (es : List Enumeration) (v : Variable) (m : Made) → Grows 5 m.0 (with_state es v m).0
+state_counts : (es : List Enumeration) (v : Variable) (m : Built) → Grows 5 m.0 (with_state es v m).0
 state_counts es v m =
     let s = with_free m.0 line.State (sort_bits es v.sort) (v.name ++ codes ".prev") in
     let n = with_given s.0 line.Next (sort_bits es v.sort) s.1 m.1 in
@@ -64,11 +64,11 @@ variable_counts es lines v =
     let i = with_free lines line.Input (sort_bits es v.sort) v.name in
     grows_then 1 5 lines i.0 (with_state es v i).0 (free_counts lines line.Input (sort_bits es v.sort) v.name refl) (state_counts es v i)
 
-pub variables_count : (es : List Enumeration) (m : AllMade) (vs : List Variable) → Grows (6 * length vs) m.0 (with_variables es m vs).0
+pub variables_count : (es : List Enumeration) (m : AllBuilt) (vs : List Variable) → Grows (6 * length vs) m.0 (with_variables es m vs).0
 variables_count es m [] = grows_none m.0
 variables_count es m (v ∷ vs) =
     let one = with_variable es m.0 v in
-    let next : AllMade = (one.0, m.1 ++ one.1 ∷ []) in
+    let next : AllBuilt = (one.0, m.1 ++ one.1 ∷ []) in
     let all = with_variables es next vs in
     grows_more (6 + 6 * length vs) (6 * length (v ∷ vs)) m.0 all.0 (omega arith) (grows_then 6 (6 * length vs) m.0 one.0 all.0 (variable_counts es m.0 v) (variables_count es next vs))
 

@@ -17,7 +17,7 @@ use Rattle.moxi_terms.specs.Value.{body_at}
 use Rattle.moxi_terms.proofs.ValueLaws.{read_at}
 use Rattle.moxi_flat.specs.Terms.{measured_upto, operator_size, term_size, terms_size}
 use Rattle.moxi_lines.specs.Codes.{code_of}
-use Rattle.moxi_lines.specs.TermLines.{CallLines, Made, call_lines, place_in, with_datum, with_operator, with_term, with_terms}
+use Rattle.moxi_lines.specs.TermLines.{CallLines, Built, call_lines, place_in, with_datum, with_operator, with_term, with_terms}
 use Rattle.moxi_lines.specs.Lines.{head_lines}
 use Rattle.moxi_lines.proofs.Extending.{Extends, extends_then}
 use Rattle.moxi_layout.proofs.Growth.{Grows, grows_none, grows_then}
@@ -157,7 +157,7 @@ module _ (es : List Enumeration) (fs : List PlainFunction) (sorted : AreFunction
       subst (λ t. Counts 0 (term_size (measured_upto term_size fs k) t) lines (with_term es (call_lines es fs k) (place_in ps) (place_in ps) [] lines t).0) (sym e)
       (record { count = r.count; grows = r.grows; few = let a = r.few in omega (arith, a) })
 
-  chosen_counts : (b : Bool) (n m : ℕ) (lines : List Line) (x y : Made) → Counts 0 n lines x.0 → Counts 0 m lines y.0 → Counts 0 (cond b n m) lines (cond b x y).0
+  chosen_counts : (b : Bool) (n m : ℕ) (lines : List Line) (x y : Built) → Counts 0 n lines x.0 → Counts 0 m lines y.0 → Counts 0 (cond b n m) lines (cond b x y).0
   chosen_counts true n m lines x y g h = g
   chosen_counts false n m lines x y g h = h
 

@@ -12,7 +12,7 @@ use Rattle.btor_tree.specs.declared.lines.LineOp.{LineOp}
 use Rattle.btor_tree.specs.declared.lines.LineOp.TheVariants as line
 use Rattle.btor_tree.specs.Fits.{plain_arg, sort_at, width_at}
 use Rattle.btor_tree.specs.Frame.{Equation, Meets, operand, word_at}
-use Rattle.btor_tree.specs.Sharing.{GrowsQuietly, SaysAt, next_line, with_sort}
+use Rattle.btor_tree.specs.Sharing.{GrowsByShared, SaysAt, next_line, with_sort}
 use Rattle.btor_tree.proofs.Alike.{pushed_quiet, pushed_says, pushed_sort}
 use Rattle.btor_tree.proofs.Grows.{slice_get_front}
 use Rattle.btor_tree.proofs.Widths.{sort_front}
@@ -23,7 +23,7 @@ use Rattle.moxi_terms.specs.declared.term.Variable.{Variable}
 use Rattle.moxi_terms.specs.Sorted.{AreSorts}
 use Rattle.moxi_terms.specs.Tree.{sorts_of}
 use Rattle.moxi_lines.specs.Codes.{choice_width, constant_count, sort_bits}
-use Rattle.moxi_lines.specs.TermLines.{AllMade, Made}
+use Rattle.moxi_lines.specs.TermLines.{AllBuilt, Built}
 use Rattle.moxi_lines.specs.TermLaws.{HaveCodes}
 use Rattle.moxi_lines.proofs.Chains.{binary_grows}
 use Rattle.moxi_lines.specs.Lines.{symbol_of, with_code, with_constraint, with_free, with_given, with_variable, with_variables}
@@ -38,7 +38,7 @@ use Rattle.moxi_layout.proofs.PartAdditions.{arg_unless, both_mapped, constraint
 
 -- ---- single lines
 
-pub sort_grows : (lines : List Line) (w : ℕ) → GrowsQuietly lines (with_sort lines w).0
+pub sort_grows : (lines : List Line) (w : ℕ) → GrowsByShared lines (with_sort lines w).0
 sort_grows lines w = pushed_quiet lines (line.Sort w) 0 [] None refl
 
 sort_stays : (lines all : List Line) (w : ℕ) → 1 ≤ w → Extends (with_sort lines w).0 all → sort_at all (with_sort lines w).1 ≡ w
@@ -128,10 +128,10 @@ code_words es (Choice n) lines p row met = let c = constant_count es n in go c (
 -- ---- variables
 
 module _ (es : List Enumeration) where
-  abbrev input_m : List Line → Variable → Made
+  abbrev input_m : List Line → Variable → Built
   input_m lines v = with_free lines line.Input (sort_bits es v.sort) v.name
 
-  abbrev state_m : List Line → Variable → Made
+  abbrev state_m : List Line → Variable → Built
   state_m lines v = with_free (input_m lines v).0 line.State (sort_bits es v.sort) (v.name ++ codes ".prev")
 
   abbrev next_m : List Line → Variable → List Line
@@ -164,23 +164,23 @@ module _ (es : List Enumeration) where
   variables_args lines [] = []
   variables_args lines (v ∷ vs) = variable_args lines v ++ variables_args (with_variable es lines v).0 vs
 
-  pub places_are : (m : AllMade) (vs : List Variable) → (with_variables es m vs).1 ≡ m.1 ++ places_from m.0 vs
+  pub places_are : (m : AllBuilt) (vs : List Variable) → (with_variables es m vs).1 ≡ m.1 ++ places_from m.0 vs
   places_are m [] = sym (append-nil m.1)
   places_are m (v ∷ vs) = let one = with_variable es m.0 v in places_are (one.0, m.1 ++ one.1 ∷ []) vs ∙ append_assoc m.1 (one.1 ∷ []) (places_from one.0 vs)
 
-  pub variables_add : HaveCodes es → (m : AllMade) (vs : List Variable) → AreSorts es (sorts_of vs)
+  pub variables_add : HaveCodes es → (m : AllBuilt) (vs : List Variable) → AreSorts es (sorts_of vs)
       → Adds m.0 (with_variables es m vs).0 (record { entries = flat_map (variable_entries es) vs; inputs = places_from m.0 vs; states = map (λ p. suc p) (places_from m.0 vs); constraints = variables_args m.0 vs; bads = [] })
   variables_add have m [] sorts = adds_none m.0
   variables_add have m (v ∷ vs) sorts =
       let one = with_variable es m.0 v in
-      let next : AllMade = (one.0, m.1 ++ one.1 ∷ []) in
+      let next : AllBuilt = (one.0, m.1 ++ one.1 ∷ []) in
       adds_then m.0 one.0 (with_variables es next vs).0 _ _ (variable_adds m.0 v (sort_wide es have v.sort sorts.0).0) (variables_add have next vs sorts.1)
 
-  pub variables_words : HaveCodes es → (m : AllMade) (vs : List Variable) → AreSorts es (sorts_of vs) → (row : List BitVector) → Meets (with_variables es m vs).0 row
+  pub variables_words : HaveCodes es → (m : AllBuilt) (vs : List Variable) → AreSorts es (sorts_of vs) → (row : List BitVector) → Meets (with_variables es m vs).0 row
       → map (operand row) (variables_args m.0 vs) ≡ map truth_word (codes_inside es row vs (places_from m.0 vs))
   variables_words have m [] sorts row met = refl
   variables_words have m (v ∷ vs) sorts row met =
       let one = with_variable es m.0 v in
-      let next : AllMade = (one.0, m.1 ++ one.1 ∷ []) in
+      let next : AllBuilt = (one.0, m.1 ++ one.1 ∷ []) in
       let g = (variables_add have next vs sorts.1).extends in
       both_mapped (operand row) truth_word _ _ _ _ (code_words es v.sort (next_m m.0 v) (input_m m.0 v).1 row (extends_meets one.0 (with_variables es next vs).0 row g met)) (variables_words have next vs sorts.1 row met)

@@ -20,7 +20,7 @@ use Rattle.moxi_terms.specs.Value.{Values}
 use Rattle.moxi_terms.proofs.ValueLaws.{read_at}
 use Rattle.moxi_lines.specs.Codes.{sort_bits}
 use Rattle.moxi_lines.specs.TermLines.{place_in}
-use Rattle.moxi_lines.specs.TermLaws.{HaveCodes, StandsFor, VariablesStand}
+use Rattle.moxi_lines.specs.TermLaws.{HaveCodes, Represents, VariablesAreRepresented}
 use Rattle.moxi_lines.specs.Variables.{AreVariablesAt, IsVariableAt}
 use Rattle.moxi_lines.proofs.VariableLaws.{all_get, sort_wide}
 use Rattle.moxi_lines.proofs.Decoded.{sort_there}
@@ -49,11 +49,11 @@ variable_at es lines (x ∷ vs) [] v h less = absurd h
 variable_at es lines (x ∷ vs) (p ∷ ps) zero h less = (x, h.0)
 variable_at es lines (x ∷ vs) (p ∷ ps) (suc v) h less = variable_at es lines vs ps v h.1 (omega (arith, less))
 
-pub values_as : (es : List Enumeration) (row : List BitVector) (known : Bool) (lines : List Line) (vars : List Sort) (places : ℕ → ℕ) (a b : Values) → ((v : ℕ) → v < length vars → a v ≡ b v) → VariablesStand es row known lines vars places a → VariablesStand es row known lines vars places b
+pub values_as : (es : List Enumeration) (row : List BitVector) (known : Bool) (lines : List Line) (vars : List Sort) (places : ℕ → ℕ) (a b : Values) → ((v : ℕ) → v < length vars → a v ≡ b v) → VariablesAreRepresented es row known lines vars places a → VariablesAreRepresented es row known lines vars places b
 values_as es row known lines vars places a b e x =
     record {
       sorted = λ v s h. subst (IsOf es s) (e v (inside_list vars v s h)) (x.sorted v s h);
-      each = λ v s h. subst (StandsFor es row known lines (places v) s) (e v (inside_list vars v s h)) (x.each v s h);
+      each = λ v s h. subst (Represents es row known lines (places v) s) (e v (inside_list vars v s h)) (x.each v s h);
     }
 
 -- ---- values for lines without a row
@@ -73,7 +73,7 @@ abbrev pub zero_values : List Variable → Values
 zero_values vs v = zero_datum (slice_index_or (sorts_of vs) v Truth)
 
 pub zeros_stand : (es : List Enumeration) → HaveCodes es → AllByRecursion (λ (e : Enumeration). 0 < length e.constants) es → (vs : List Variable) → AreSorts es (sorts_of vs) → (lines : List Line) (place : ℕ → ℕ)
-    → ((v : ℕ) (s : Sort) → slice_get (sorts_of vs) v ≡ Some s → width_at lines (place v) ≡ sort_bits es s) → VariablesStand es [] false lines (sorts_of vs) place (zero_values vs)
+    → ((v : ℕ) (s : Sort) → slice_get (sorts_of vs) v ≡ Some s → width_at lines (place v) ≡ sort_bits es s) → VariablesAreRepresented es [] false lines (sorts_of vs) place (zero_values vs)
 zeros_stand es have full vs sorts lines place widths =
     record {
       sorted = λ v s h. subst (λ t. IsOf es s (zero_datum t)) (sym (read_at (sorts_of vs) v s Truth h)) (zero_is es full s (sort_there es (sorts_of vs) v s sorts h));

@@ -5,7 +5,7 @@ use Rattle.std.specs.List.{AllByRecursion}
 use Rattle.btor_tree.specs.declared.lines.Line.{Line}
 use Rattle.btor_tree.specs.declared.lines.LineOp.TheVariants as line
 use Rattle.btor_tree.specs.Fits.{IsWellFormed, plain_arg}
-use Rattle.btor_tree.specs.Sharing.{HasNoTwoAlike, Push}
+use Rattle.btor_tree.specs.Sharing.{HasNoDuplicates, Push}
 use Rattle.btor_tree.proofs.Alike.{built_distinct, none_alike}
 use Rattle.moxi_flat.specs.Terms.{call_sizes}
 use Rattle.moxi_flat.specs.FlatSizes.{part_size}
@@ -14,7 +14,7 @@ use Rattle.moxi_flat.specs.FlatSystem.{PlainFlatSystem}
 use Rattle.moxi_flat.proofs.Sizes.{flat_systems_have_sizes_law}
 use Rattle.moxi_lines.specs.Lines.{head_lines, lines_of, variable_lines, with_parts}
 use Rattle.moxi_lines.proofs.Extending.{extends_none}
-use Rattle.moxi_layout.specs.Counts.{FlatSizesAreScriptSizes, LinesAreCounted, LinesStayFew, NamesOneFormula, NoTwoLinesAlike, flat_query_size, flat_size}
+use Rattle.moxi_layout.specs.Counts.{FlatSizesAreScriptSizes, LinesAreCounted, LinesStayFew, NamesOneFormula, NoDuplicateLines, flat_query_size, flat_size}
 use Rattle.moxi_layout.proofs.Growth.{Grows, counted_all, grows_more, grows_then, other_count, sort_count}
 use Rattle.moxi_layout.proofs.TermCounts.{HasHead, head_stays}
 use Rattle.moxi_layout.proofs.Systems.{parts_count, variables_count}
@@ -35,7 +35,7 @@ head_pushes =
     ∷ record { op = line.Next; sort = 0; args = plain_arg 3 ∷ plain_arg 2 ∷ []; symbol = None }
     ∷ []
 
-head_alike : HasNoTwoAlike head_lines
+head_alike : HasNoDuplicates head_lines
 unfolding head_pushes
 head_alike = built_distinct [] head_pushes none_alike
 
@@ -92,8 +92,8 @@ formed_counted f sorted names formed =
     let s = sorts_few (lines_of f) (g.alike head_alike) (formed_plain (lines_of f) formed) in
     omega (arith, o, s, c, h.0)
 
-pub no_two_lines_alike_law : NoTwoLinesAlike
-no_two_lines_alike_law f sorted = (system_counts f sorted).alike head_alike
+pub no_duplicate_lines_law : NoDuplicateLines
+no_duplicate_lines_law f sorted = (system_counts f sorted).alike head_alike
 
 pub lines_are_counted_law : LinesAreCounted
 lines_are_counted_law f have sorted names room = formed_counted f sorted names (lines_numbered f have sorted names room).fit

@@ -2,10 +2,10 @@
 use Rattle.std.specs.Prelude.{◌≡◌, ℕ, ◌+◌, ◌*◌, ◌<◌, ◌≤◌, [], length, flat_map, sum_by}
 use Rattle.std.specs.List.{AllByRecursion}
 use Rattle.btor_tree.specs.Fits.{greatest_id}
-use Rattle.btor_tree.specs.Sharing.{HasNoTwoAlike}
+use Rattle.btor_tree.specs.Sharing.{HasNoDuplicates}
 use Rattle.moxi_scripts.specs.declared.script.Query.{Query}
 use Rattle.moxi_scripts.specs.Script.{PlainScript}
-use Rattle.moxi_scripts.specs.Whole.{IsWhole}
+use Rattle.moxi_scripts.specs.Valid.{IsValid}
 use Rattle.moxi_flat.specs.Terms.{call_sizes}
 use Rattle.moxi_flat.specs.Systems.{named_size, script_size, unnamed_size}
 use Rattle.moxi_flat.specs.FlatSizes.{part_size}
@@ -41,7 +41,7 @@ pub record NamesOneFormula (q : Query) : Type 0 where
 -- ---- laws
 
 abbrev pub FlatSizesAreScriptSizes : Type 0
-FlatSizesAreScriptSizes = (s : PlainScript) → IsWhole s → flat_size (flat_of s) ≡ script_size s
+FlatSizesAreScriptSizes = (s : PlainScript) → IsValid s → flat_size (flat_of s) ≡ script_size s
 
 -- whatever the queries name
 abbrev pub LinesStayFew : Type 0
@@ -53,5 +53,5 @@ LinesAreCounted = (f : PlainFlatSystem) → HaveCodes f.scope.enumerations → I
     → length (lines_of f) ≤ 2 * flat_size f + 6 * (length f.variables + length f.queries) + 150
 
 -- no two lines that are shared say the same
-abbrev pub NoTwoLinesAlike : Type 0
-NoTwoLinesAlike = (f : PlainFlatSystem) → IsSortedFlat f → HasNoTwoAlike (lines_of f)
+abbrev pub NoDuplicateLines : Type 0
+NoDuplicateLines = (f : PlainFlatSystem) → IsSortedFlat f → HasNoDuplicates (lines_of f)

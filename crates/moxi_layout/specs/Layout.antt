@@ -1,5 +1,5 @@
--- Which lists of lines lay a flat system out. The lines of variables, constraints, latches and bad lines stand in one order and say
--- what they have to say of frames; which operators stand between them is free.
+-- Which lists of lines lay a flat system out. The lines of variables, constraints, latches and bad lines are in one order and say
+-- what they have to say of frames; which operators are between them is free.
 use Rattle.std.specs.Prelude.{◌≡◌, ◌==◌, ℕ, suc, ◌<◌, nat_lt, Bool, true, false, not, ◌&&◌, ◌||◌, if◌then◌else◌, Option, Some, None, option_map, List, [], ◌∷◌, ◌++◌, map, flat_map, take, drop, length, slice_index_or}
 use Rattle.std.specs.List.{list_all, list_any}
 use Rattle.word_core.specs.Words.{BitVector}
@@ -49,7 +49,7 @@ latches_in f lines = drop (suc (length f.variables)) (places_of is_state lines)
 abbrev pub truth_word : Bool → BitVector
 truth_word b = record { width = 1; bits = bit_of b }
 
--- is it the word of true that stands at the place?
+-- is it the word of true that is at the place?
 abbrev pub is_set : List BitVector → ℕ → Bool
 is_set row p = (word_at row p).bits == 1
 
@@ -157,7 +157,7 @@ AreQueriesLaid f lines qs latches bs = ⊥
 
 -- The lines lay the system out.
 pub record LaysOut (f : PlainFlatSystem) (lines : List Line) : Type 0 where
-  -- the lines of kind input, state, init, next, constraint and bad stand in the system's order, with its widths and symbols
+  -- the lines of kind input, state, init, next, constraint and bad are in the system's order, with its widths and symbols
   pub order : skeleton lines ≡ skeleton_of f
   -- in each row that meets the lines, `first` begins as one and its next is zero
   pub first_init : (row : List BitVector) → Meets lines row → given is_init lines row (first_at lines) ≡ Some (truth_word true)

@@ -7,7 +7,7 @@ use Rattle.moxi_lines.specs.TermLaws.{HaveCodes}
 use Rattle.moxi_lines.specs.Lines.{lines_of}
 use Rattle.moxi_layout.specs.Layout.{LaysOut}
 
--- where there are ids for all of them, they stand in the system's order, and each says what it has to say
+-- where there are ids for all of them, they are in the system's order, and each says what it has to say
 abbrev pub LinesLayOut : Type 0
 LinesLayOut = (f : PlainFlatSystem) → HaveCodes f.scope.enumerations → IsSortedFlat f → length (lines_of f) < greatest_id → LaysOut f (lines_of f)
 

@@ -21,12 +21,12 @@ pub record ReadAlike (lines other : List Line) : Type 0 where
   pub spelled : (text : List ℕ) (w : Witness) → SpellsWitness lines text w ↔ SpellsWitness other text w
   pub refused : (text : List ℕ) (kind : Kind) (at : ℕ) → RefusesWitness lines text kind at ↔ RefusesWitness other text kind at
 
-abbrev pub LayoutsAreReadAlike : Type 0
-LayoutsAreReadAlike = (f : PlainFlatSystem) (lines other : List Line) → IsLaidOut f lines → IsLaidOut f other → ReadAlike lines other
+abbrev pub LayoutsAreReadEqually : Type 0
+LayoutsAreReadEqually = (f : PlainFlatSystem) (lines other : List Line) → IsLaidOut f lines → IsLaidOut f other → ReadAlike lines other
 
 -- each witness has the same verdict for both
-abbrev pub LayoutsAreJudgedAlike : Type 0
-LayoutsAreJudgedAlike = (f : PlainFlatSystem) (lines other : List Line) → IsLaidOut f lines → IsLaidOut f other
+abbrev pub LayoutsAreJudgedEqually : Type 0
+LayoutsAreJudgedEqually = (f : PlainFlatSystem) (lines other : List Line) → IsLaidOut f lines → IsLaidOut f other
     → (w : Witness) → IsWitness (sizes_of lines) w → (v : Verdict) → judged_btor lines w v ↔ judged_btor other w v
 
 -- the bad lines of a witness's numbers are those of the queries

@@ -1,5 +1,5 @@
 // Laws about the number of a flat system's lines.
-ghost use Rattle.moxi_layout.specs.Counts.{FlatSizesAreScriptSizes, LinesAreCounted, LinesStayFew, NoTwoLinesAlike};
+ghost use Rattle.moxi_layout.specs.Counts.{FlatSizesAreScriptSizes, LinesAreCounted, LinesStayFew, NoDuplicateLines};
 
 /// Proves that the size of a flat system is that of its script.
 pub fn flat_sizes_are_script_sizes()
@@ -19,7 +19,7 @@ pub fn lines_are_counted()
     ensures { LinesAreCounted }
 {}
 
-/// Proves that no two sort, constant or operator lines of a flat system are alike.
-pub fn no_two_lines_alike()
-    ensures { NoTwoLinesAlike }
+/// Proves that no two sort, constant or operator lines of a flat system are equal.
+pub fn no_duplicate_lines()
+    ensures { NoDuplicateLines }
 {}

@@ -1,5 +1,5 @@
 // Laws about layouts.
-ghost use Rattle.moxi_layout.specs.Witnesses.{AcceptedFramesAreTraces, LayoutsAreJudgedAlike, LayoutsAreReadAlike, WitnessesNameQueries};
+ghost use Rattle.moxi_layout.specs.Witnesses.{AcceptedFramesAreTraces, LayoutsAreJudgedEqually, LayoutsAreReadEqually, WitnessesNameQueries};
 ghost use Rattle.moxi_layout.specs.LayoutLaws.{BadsAreQueries, FramesAreTraces, TracesAreFrames, TracesHaveFrames};
 
 /// Proves that frames of lines that lay out a system decode to a trace that meets a query.
@@ -29,13 +29,13 @@ pub fn bads_are_queries()
 {}
 
 /// Proves that a text parses to the same witness, or has the same refusal, for all lines that lay out the same system.
-pub fn layouts_are_read_alike()
-    ensures { LayoutsAreReadAlike }
+pub fn layouts_are_read_equally()
+    ensures { LayoutsAreReadEqually }
 {}
 
 /// Proves that a witness has the same verdict for all lines that lay out the same system.
-pub fn layouts_are_judged_alike()
-    ensures { LayoutsAreJudgedAlike }
+pub fn layouts_are_judged_equally()
+    ensures { LayoutsAreJudgedEqually }
 {}
 
 /// Proves that witnesses are for as many bad lines as there are queries.

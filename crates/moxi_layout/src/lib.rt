@@ -11,10 +11,10 @@ mod line_laws;
 
 pub use constant_laws::{codes_are_few, constants_are_few};
 pub use count_laws::{
-    flat_sizes_are_script_sizes, lines_are_counted, lines_stay_few, no_two_lines_alike,
+    flat_sizes_are_script_sizes, lines_are_counted, lines_stay_few, no_duplicate_lines,
 };
 pub use layout_laws::{
-    accepted_frames_are_traces, bads_are_queries, frames_are_traces, layouts_are_judged_alike,
-    layouts_are_read_alike, traces_are_frames, traces_have_frames, witnesses_name_queries,
+    accepted_frames_are_traces, bads_are_queries, frames_are_traces, layouts_are_judged_equally,
+    layouts_are_read_equally, traces_are_frames, traces_have_frames, witnesses_name_queries,
 };
 pub use line_laws::lines_lay_out;

@@ -9,12 +9,12 @@ use Rattle.btor_tree.specs.declared.lines.Line.{Line}
 use Rattle.btor_tree.specs.declared.lines.LineOp.TheVariants as line
 use Rattle.btor_tree.specs.Fits.{greatest_id, plain_arg, width_at}
 use Rattle.btor_tree.specs.Frame.{nothing}
-use Rattle.btor_tree.specs.Sharing.{GrowsQuietly}
+use Rattle.btor_tree.specs.Sharing.{GrowsByShared}
 use Rattle.btor_tree.proofs.Widths.{width_small}
-use Rattle.moxi_lines.specs.TermLines.{AllMade, Made, chain_lines, compared_lines, folded_lines, implied_lines, neighbours, paired_lines, pairs_of, with_binary, with_implication}
+use Rattle.moxi_lines.specs.TermLines.{AllBuilt, Built, chain_lines, compared_lines, folded_lines, implied_lines, neighbours, paired_lines, pairs_of, with_binary, with_implication}
 use Rattle.moxi_lines.specs.TermLaws.{AreNumbered}
 use Rattle.moxi_lines.proofs.Growing.{grown_long, grown_none, grown_then}
-use Rattle.moxi_lines.proofs.Steps.{MadeWord, WordAt, binary_step, later_word, word_grows}
+use Rattle.moxi_lines.proofs.Steps.{BuiltWord, WordAt, binary_step, later_word, word_grows}
 
 -- the words of operators on several words
 abbrev pub fold_words : Binary → BitVector → List BitVector → BitVector
@@ -34,32 +34,32 @@ pair_words b xs = map (λ (x : BitVector × BitVector). binary_of b x.0 x.1) xs
 
 -- ---- growth
 
-pub binary_grows : (b : Binary) (lines : List Line) (p q : ℕ) → GrowsQuietly lines (with_binary b lines p q).0
+pub binary_grows : (b : Binary) (lines : List Line) (p q : ℕ) → GrowsByShared lines (with_binary b lines p q).0
 binary_grows b lines p q = word_grows lines (line.Binary b) (binary_width b (width_at lines p) (width_at lines q)) (plain_arg p ∷ plain_arg q ∷ []) refl
 
-pub folded_grows : (b : Binary) (m : Made) (qs : List ℕ) → GrowsQuietly m.0 (folded_lines b m qs).0
+pub folded_grows : (b : Binary) (m : Built) (qs : List ℕ) → GrowsByShared m.0 (folded_lines b m qs).0
 folded_grows b m [] = grown_none m.0
 folded_grows b m (q ∷ qs) =
     let n = with_binary b m.0 m.1 q in
     grown_then m.0 n.0 (folded_lines b n qs).0 (binary_grows b m.0 m.1 q) (folded_grows b n qs)
 
-pub chain_grows : (b : Binary) (lines : List Line) (ps : List ℕ) → GrowsQuietly lines (chain_lines b lines ps).0
+pub chain_grows : (b : Binary) (lines : List Line) (ps : List ℕ) → GrowsByShared lines (chain_lines b lines ps).0
 chain_grows b lines [] = grown_none lines
 chain_grows b lines (p ∷ ps) = folded_grows b (lines, p) ps
 
-pub implied_grows : (lines : List Line) (p : ℕ) (ps : List ℕ) → GrowsQuietly lines (implied_lines lines p ps).0
+pub implied_grows : (lines : List Line) (p : ℕ) (ps : List ℕ) → GrowsByShared lines (implied_lines lines p ps).0
 implied_grows lines p [] = grown_none lines
 implied_grows lines p (q ∷ qs) =
     let m = implied_lines lines q qs in
     grown_then lines m.0 (with_implication p m).0 (implied_grows lines q qs) (binary_grows two.Implies m.0 p m.1)
 
-pub paired_grows : (b : Binary) (lines : List Line) (xs : List (ℕ × ℕ)) → GrowsQuietly lines (paired_lines b lines xs).0
+pub paired_grows : (b : Binary) (lines : List Line) (xs : List (ℕ × ℕ)) → GrowsByShared lines (paired_lines b lines xs).0
 paired_grows b lines [] = grown_none lines
 paired_grows b lines (x ∷ xs) =
     let n = with_binary b lines x.0 x.1 in
     grown_then lines n.0 (paired_lines b n.0 xs).0 (binary_grows b lines x.0 x.1) (paired_grows b n.0 xs)
 
-pub compared_grows : (b : Binary) (lines : List Line) (xs : List (ℕ × ℕ)) → GrowsQuietly lines (compared_lines b lines xs).0
+pub compared_grows : (b : Binary) (lines : List Line) (xs : List (ℕ × ℕ)) → GrowsByShared lines (compared_lines b lines xs).0
 compared_grows b lines xs =
     let m = paired_lines b lines xs in
     grown_then lines m.0 (chain_lines two.And m.0 m.1).0 (paired_grows b lines xs) (chain_grows two.And m.0 m.1)
@@ -77,26 +77,26 @@ module _ (row : List BitVector) (known : Bool) where
   PairsAt lines (p ∷ ps) w (x ∷ xs) = (WordAt row known lines p.0 w x.0 × WordAt row known lines p.1 w x.1) × PairsAt lines ps w xs
   PairsAt lines ps w xs = ⊥
 
-  pub record MadeWords (lines : List Line) (m : AllMade) (w : ℕ) (xs : List BitVector) : Type 0 where
-    pub grows : GrowsQuietly lines m.0
+  pub record BuiltWords (lines : List Line) (m : AllBuilt) (w : ℕ) (xs : List BitVector) : Type 0 where
+    pub grows : GrowsByShared lines m.0
     pub numbered : AreNumbered m.0
     pub at : WordsAt m.0 m.1 w xs
 
-  later_words : (a b : List Line) (ps : List ℕ) (w : ℕ) (xs : List BitVector) → 1 ≤ w → GrowsQuietly a b → WordsAt a ps w xs → WordsAt b ps w xs
+  later_words : (a b : List Line) (ps : List ℕ) (w : ℕ) (xs : List BitVector) → 1 ≤ w → GrowsByShared a b → WordsAt a ps w xs → WordsAt b ps w xs
   later_words a b [] w [] h g at = tt
   later_words a b [] w (x ∷ xs) h g at = absurd at
   later_words a b (p ∷ ps) w [] h g at = absurd at
   later_words a b (p ∷ ps) w (x ∷ xs) h g at = (later_word row known a b p w x h g at.0, later_words a b ps w xs h g at.1)
 
-  later_pairs : (a b : List Line) (ps : List (ℕ × ℕ)) (w : ℕ) (xs : List (BitVector × BitVector)) → 1 ≤ w → GrowsQuietly a b → PairsAt a ps w xs → PairsAt b ps w xs
+  later_pairs : (a b : List Line) (ps : List (ℕ × ℕ)) (w : ℕ) (xs : List (BitVector × BitVector)) → 1 ≤ w → GrowsByShared a b → PairsAt a ps w xs → PairsAt b ps w xs
   later_pairs a b [] w [] h g at = tt
   later_pairs a b [] w (x ∷ xs) h g at = absurd at
   later_pairs a b (p ∷ ps) w [] h g at = absurd at
   later_pairs a b (p ∷ ps) w (x ∷ xs) h g at =
       ((later_word row known a b p.0 w x.0 h g at.0.0, later_word row known a b p.1 w x.1 h g at.0.1), later_pairs a b ps w xs h g at.1)
 
-  pub folded_made : (b : Binary) (w : ℕ) → 1 ≤ w → BinaryFits b w w → binary_width b w w ≡ w → (m : Made) (x : BitVector) (qs : List ℕ) (ys : List BitVector) → AreNumbered m.0
-      → WordAt row known m.0 m.1 w x → WordsAt m.0 qs w ys → length (folded_lines b m qs).0 < greatest_id → MadeWord row known m.0 (folded_lines b m qs) w (fold_words b x ys)
+  pub folded_made : (b : Binary) (w : ℕ) → 1 ≤ w → BinaryFits b w w → binary_width b w w ≡ w → (m : Built) (x : BitVector) (qs : List ℕ) (ys : List BitVector) → AreNumbered m.0
+      → WordAt row known m.0 m.1 w x → WordsAt m.0 qs w ys → length (folded_lines b m qs).0 < greatest_id → BuiltWord row known m.0 (folded_lines b m qs) w (fold_words b x ys)
   folded_made b w h fits e m x [] [] n a at room = record { grows = grown_none m.0; numbered = n; at = a }
   folded_made b w h fits e m x [] (y ∷ ys) n a at room = absurd at
   folded_made b w h fits e m x (q ∷ qs) [] n a at room = absurd at
@@ -112,13 +112,13 @@ module _ (row : List BitVector) (known : Bool) where
       record { grows = grown_then m.0 next.0 (folded_lines b next qs).0 g more; numbered = rest.numbered; at = rest.at }
 
   pub chain_made : (b : Binary) (w : ℕ) → 1 ≤ w → BinaryFits b w w → binary_width b w w ≡ w → (lines : List Line) (ps : List ℕ) (xs : List BitVector) → AreNumbered lines → 1 ≤ length xs
-      → WordsAt lines ps w xs → length (chain_lines b lines ps).0 < greatest_id → MadeWord row known lines (chain_lines b lines ps) w (fold_all b xs)
+      → WordsAt lines ps w xs → length (chain_lines b lines ps).0 < greatest_id → BuiltWord row known lines (chain_lines b lines ps) w (fold_all b xs)
   chain_made b w h fits e lines ps [] n l at room = absurd (omega (arith, l))
   chain_made b w h fits e lines [] (x ∷ xs) n l at room = absurd at
   chain_made b w h fits e lines (p ∷ ps) (x ∷ xs) n l at room = folded_made b w h fits e (lines, p) x ps xs n at.0 at.1 room
 
   pub implied_made : (lines : List Line) (p : ℕ) (x : BitVector) (ps : List ℕ) (xs : List BitVector) → AreNumbered lines → WordAt row known lines p 1 x → WordsAt lines ps 1 xs
-      → length (implied_lines lines p ps).0 < greatest_id → MadeWord row known lines (implied_lines lines p ps) 1 (implied_word x xs)
+      → length (implied_lines lines p ps).0 < greatest_id → BuiltWord row known lines (implied_lines lines p ps) 1 (implied_word x xs)
   implied_made lines p x [] [] n a at room = record { grows = grown_none lines; numbered = n; at = a }
   implied_made lines p x [] (y ∷ ys) n a at room = absurd at
   implied_made lines p x (q ∷ qs) [] n a at room = absurd at
@@ -132,7 +132,7 @@ module _ (row : List BitVector) (known : Bool) where
       record { grows = grown_then lines m.0 (with_implication p m).0 inner.grows g; numbered = s.numbered; at = s.at }
 
   pub paired_made : (b : Binary) (w : ℕ) → 1 ≤ w → BinaryFits b w w → binary_width b w w ≡ 1 → (lines : List Line) (ps : List (ℕ × ℕ)) (xs : List (BitVector × BitVector)) → AreNumbered lines
-      → PairsAt lines ps w xs → length (paired_lines b lines ps).0 < greatest_id → MadeWords lines (paired_lines b lines ps) 1 (pair_words b xs)
+      → PairsAt lines ps w xs → length (paired_lines b lines ps).0 < greatest_id → BuiltWords lines (paired_lines b lines ps) 1 (pair_words b xs)
   paired_made b w h fits e lines [] [] n at room = record { grows = grown_none lines; numbered = n; at = tt }
   paired_made b w h fits e lines [] (x ∷ xs) n at room = absurd at
   paired_made b w h fits e lines (p ∷ ps) [] n at room = absurd at
@@ -151,7 +151,7 @@ module _ (row : List BitVector) (known : Bool) where
       }
 
   pub compared_made : (b : Binary) (w : ℕ) → 1 ≤ w → BinaryFits b w w → binary_width b w w ≡ 1 → (lines : List Line) (ps : List (ℕ × ℕ)) (xs : List (BitVector × BitVector)) → AreNumbered lines → 1 ≤ length (pair_words b xs)
-      → PairsAt lines ps w xs → length (compared_lines b lines ps).0 < greatest_id → MadeWord row known lines (compared_lines b lines ps) 1 (fold_all two.And (pair_words b xs))
+      → PairsAt lines ps w xs → length (compared_lines b lines ps).0 < greatest_id → BuiltWord row known lines (compared_lines b lines ps) 1 (fold_all two.And (pair_words b xs))
   compared_made b w h fits e lines ps xs n l at room =
       let m = paired_lines b lines ps in
       let few : length m.0 < greatest_id = omega (arith, room, grown_long m.0 (chain_lines two.And m.0 m.1).0 (chain_grows two.And m.0 m.1)) in

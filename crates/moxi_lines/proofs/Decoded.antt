@@ -20,7 +20,7 @@ use Rattle.moxi_terms.specs.Tree.{sorts_of}
 use Rattle.moxi_terms.proofs.ValueLaws.{read_at}
 use Rattle.moxi_lines.specs.Codes.{code_of, constant_count, sort_bits}
 use Rattle.moxi_lines.specs.TermLines.{place_in}
-use Rattle.moxi_lines.specs.TermLaws.{AreNumbered, HaveCodes, VariablesStand}
+use Rattle.moxi_lines.specs.TermLaws.{AreNumbered, HaveCodes, VariablesAreRepresented}
 use Rattle.moxi_lines.proofs.CodeLaws.{count_is, goes_back}
 use Rattle.moxi_lines.specs.Lines.{input_place, state_place}
 use Rattle.moxi_lines.specs.Variables.{AreVariablesAt, IsInside}
@@ -70,7 +70,7 @@ state_width es lines (x ∷ vs) (p ∷ ps) (suc v) s a h = state_width es lines 
 module _ (es : List Enumeration) (codes : HaveCodes es) (full : AllByRecursion (λ (e : Enumeration). 0 < length e.constants) es) (vs : List Variable) (are : AreSorts es (sorts_of vs))
     (lines : List Line) (n : AreNumbered lines) (row : List BitVector) (met : Meets lines row) where
   stand_at : (place : ℕ → ℕ) → ((v : ℕ) (s : Sort) → slice_get (sorts_of vs) v ≡ Some s → width_at lines (place v) ≡ sort_bits es s) → (known : Bool) → (known ≡ true → PlacesInside es vs row place)
-      → VariablesStand es row known lines (sorts_of vs) place (decoded es vs row place)
+      → VariablesAreRepresented es row known lines (sorts_of vs) place (decoded es vs row place)
   stand_at place width known inside =
       record {
         sorted = λ v s h. subst (λ t. IsOf es s (decoded_datum es t (word_at row (place v)))) (sym (read_at (sorts_of vs) v s Truth h)) (decoded_is es full s (sort_there es (sorts_of vs) v s are h) (word_at row (place v)) (is_word v s h).0 (is_word v s h).1);

@@ -1,4 +1,4 @@
--- The head is well formed, and variables stand behind it.
+-- The head is well formed, and variables are behind it.
 use Rattle.std.proofs.Common.{◌<◌, List, [], ◌∷◌, length, Some, None, refl, sym, subst, arith, inl}
 use Rattle.std.specs.Prelude.{codes}
 use Rattle.btor_tree.specs.declared.lines.Line.{Line}

@@ -23,10 +23,10 @@ use Rattle.moxi_terms.specs.Sorts.{IsOf, common, compared, count_fits, fitting, 
 use Rattle.moxi_terms.proofs.SortLaws.{AllOf, AllOne, Calculated, arithmetic, arithmetic_fits, calculated_is, chosen_is, common_one, comparison, same_ok, taken, widened_is}
 use Rattle.moxi_terms.proofs.OperatorLaws.{extracted}
 use Rattle.moxi_lines.specs.Codes.{code_of, sort_bits}
-use Rattle.moxi_lines.specs.TermLines.{Made, chain_lines, neighbours, pairs_of, with_operator}
-use Rattle.moxi_lines.specs.TermLaws.{AreNumbered, Makes, StandsFor}
+use Rattle.moxi_lines.specs.TermLines.{Built, chain_lines, neighbours, pairs_of, with_operator}
+use Rattle.moxi_lines.specs.TermLaws.{AreNumbered, Makes, Represents}
 use Rattle.moxi_lines.proofs.Growing.{grown_none}
-use Rattle.moxi_lines.proofs.Steps.{MadeWord, WordAt, binary_step, ite_step, signs_step, slice_step, unary_step, zeros_step}
+use Rattle.moxi_lines.proofs.Steps.{BuiltWord, WordAt, binary_step, ite_step, signs_step, slice_step, unary_step, zeros_step}
 use Rattle.moxi_lines.proofs.Chains.{WordsAt, chain_made, compared_made, fold_all, fold_words, implied_made, neighbours_at, pairs_at}
 use Rattle.moxi_lines.proofs.Words.{and_words, bit, code_bits, code_truth, codes, comparison_bit, distinct_words, equal_words, folded_codes, implied_words, ite_code, or_words, parity_words, sext_none, uext_none}
 
@@ -89,15 +89,15 @@ comparison_is_no_chain b h = cc
 
 module _ (es : List Enumeration) (row : List BitVector) (known : Bool) (lines : List Line) (n : AreNumbered lines) where
   abbrev pub Stands : Operand → Type 0
-  Stands (operand p s d) = StandsFor es row known lines p s d × IsOf es s d
+  Stands (operand p s d) = Represents es row known lines p s d × IsOf es s d
 
   abbrev pub AllStand : List Operand → Type 0
   AllStand xs = AllByRecursion Stands xs
 
-  abbrev pub Room : Made → Type 0
+  abbrev pub Room : Built → Type 0
   Room m = length m.0 < greatest_id
 
-  makes : (m : Made) (w : ℕ) (x : BitVector) (s : Sort) (d : Datum) → MadeWord row known lines m w x → 1 ≤ w → sort_bits es s ≡ w → x ≡ code_of es d → Makes es row known lines m s d
+  makes : (m : Built) (w : ℕ) (x : BitVector) (s : Sort) (d : Datum) → BuiltWord row known lines m w x → 1 ≤ w → sort_bits es s ≡ w → x ≡ code_of es d → Makes es row known lines m s d
   makes m w x s d made low e f =
       record {
         grows = made.grows;
@@ -106,7 +106,7 @@ module _ (es : List Enumeration) (row : List BitVector) (known : Bool) (lines : 
       }
 
   -- a truth value
-  makes_truth : (m : Made) (x : BitVector) (s : Sort) (b : Bool) → MadeWord row known lines m 1 x → s ≡ Truth → x ≡ bit b → Makes es row known lines m s (datum.Truth b)
+  makes_truth : (m : Built) (x : BitVector) (s : Sort) (b : Bool) → BuiltWord row known lines m 1 x → s ≡ Truth → x ≡ bit b → Makes es row known lines m s (datum.Truth b)
   makes_truth m x s b made e f = makes m 1 x s (datum.Truth b) made (omega arith) (ap (sort_bits es) e) f
 
   word_here : (p : ℕ) (s : Sort) (d : Datum) → Stands (operand p s d) → WordAt row known lines p (sort_bits es s) (code_of es d)
@@ -252,7 +252,7 @@ module _ (es : List Enumeration) (row : List BitVector) (known : Bool) (lines : 
   extract_made high low (x ∷ y ∷ xs) s a c h room = absurd (omega (arith, exactly (suc (suc (length (sorts xs)))) 1 c))
 
   -- nothing is made of lines
-  stays : (p w : ℕ) (x : BitVector) → WordAt row known lines p w x → MadeWord row known lines (lines, p) w x
+  stays : (p w : ℕ) (x : BitVector) → WordAt row known lines p w x → BuiltWord row known lines (lines, p) w x
   stays p w x at = record { grows = grown_none lines; numbered = n; at = at }
 
   zeros_made : (i : ℕ) (xs : List Operand) (s : Sort) → AllStand xs → eqb (length (sorts xs)) 1 ≡ true → fitting (op.ZeroExtend i) (sorts xs) ≡ Ok s → Room (with_operator (op.ZeroExtend i) lines (places xs))

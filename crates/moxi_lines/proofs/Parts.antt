@@ -9,7 +9,7 @@ use Rattle.word_core.specs.declared.kinds.Binary.TheVariants as two
 use Rattle.btor_tree.specs.declared.lines.Line.{Line}
 use Rattle.btor_tree.specs.Fits.{greatest_id}
 use Rattle.btor_tree.specs.Frame.{Meets, true_word, word_at}
-use Rattle.btor_tree.specs.Sharing.{GrowsQuietly}
+use Rattle.btor_tree.specs.Sharing.{GrowsByShared}
 use Rattle.btor_tree.proofs.Widths.{wide}
 use Rattle.moxi_terms.specs.declared.data.Sort.TheVariants.{Truth}
 use Rattle.moxi_terms.specs.declared.data.Datum.TheVariants as datum
@@ -20,8 +20,8 @@ use Rattle.moxi_terms.proofs.ValueLaws.{all_suit, value_sorted}
 use Rattle.moxi_flat.specs.FlatSorts.{IsFlatTruth, PartIsSorted}
 use Rattle.moxi_flat.specs.FlatSystem.{PlainFlatSystem, PlainPart}
 use Rattle.moxi_lines.specs.Codes.{code_of}
-use Rattle.moxi_lines.specs.TermLines.{Made, with_binary}
-use Rattle.moxi_lines.specs.TermLaws.{AreNumbered, HaveCodes, Makes, VariablesStand}
+use Rattle.moxi_lines.specs.TermLines.{Built, with_binary}
+use Rattle.moxi_lines.specs.TermLaws.{AreNumbered, HaveCodes, Makes, VariablesAreRepresented}
 use Rattle.moxi_lines.proofs.Growing.{grown_long, grown_meets, grown_then}
 use Rattle.moxi_lines.proofs.Steps.{WordAt, binary_step}
 use Rattle.moxi_lines.proofs.Chains.{binary_grows}
@@ -87,7 +87,7 @@ chosen row known true lines new b n e f = stays row known lines b n (e refl)
 chosen row known false lines new b n e f = f refl
 
 -- a constraint on a line that was made
-from_pushed : (row : List BitVector) (known : Bool) (lines : List Line) (m : Made) (b : Bool) → GrowsQuietly lines m.0 → Pushed row lines m → (known ≡ true → Meets m.0 row → word_at row m.1 ≡ bit b) → Constrains row known lines (with_constraint m) b
+from_pushed : (row : List BitVector) (known : Bool) (lines : List Line) (m : Built) (b : Bool) → GrowsByShared lines m.0 → Pushed row lines m → (known ≡ true → Meets m.0 row → word_at row m.1 ≡ bit b) → Constrains row known lines (with_constraint m) b
 from_pushed row known lines m b g p word =
     let x = extends_then lines m.0 (with_constraint m) (quietly lines m.0 g) p.extends in
     record {
@@ -99,7 +99,7 @@ from_pushed row known lines m b g p word =
           (λ h. let q = p.held h in (q.0, true_bit b (sym (word k here) ∙ q.1)), λ h. p.holds h.0 (word k here ∙ bit_true b h.1));
     }
 
-shorter : (m : Made) → length (with_constraint m) < greatest_id → length m.0 < greatest_id
+shorter : (m : Built) → length (with_constraint m) < greatest_id → length m.0 < greatest_id
 shorter m h = let e : length m.0 ≤ length (with_constraint m) = extends_long m.0 (with_constraint m) (record { more = _; is = refl }) in omega (arith, e, h)
 
 -- one after another
@@ -119,16 +119,16 @@ both_constrain row known a b c x y g h =
     }
 
 module _ (f : PlainFlatSystem) (codes : HaveCodes f.scope.enumerations) (functions : AreFunctions f.scope.enumerations f.scope.functions) (row : List BitVector) (known both first : Bool) (inputs : List ℕ) (before now : Values) where
-  abbrev now_m : List Line → Tree → Made
+  abbrev now_m : List Line → Tree → Built
   now_m lines t = with_formula f.scope inputs lines t
 
-  abbrev init_g : List Line → Tree → Made
+  abbrev init_g : List Line → Tree → Built
   init_g lines t = with_binary two.Implies (now_m lines t).0 first_place (now_m lines t).1
 
-  abbrev step_m : List Line → Tree → Made
+  abbrev step_m : List Line → Tree → Built
   step_m lines t = with_step f.scope inputs lines t
 
-  abbrev trans_g : List Line → Tree → Made
+  abbrev trans_g : List Line → Tree → Built
   trans_g lines t = with_binary two.Or (step_m lines t).0 first_place (step_m lines t).1
 
   or_true : (b : Bool) → (b || true) ≡ true
@@ -156,7 +156,7 @@ module _ (f : PlainFlatSystem) (codes : HaveCodes f.scope.enumerations) (functio
   step_made lines t n v h room =
       whole_made f.scope.enumerations row both codes f.scope.functions functions (sorts_of f.variables) t Truth h lines n (state_place inputs) (input_place inputs) before now v.before_both v.now_both room
 
-  is_truth : (a b : Values) (t : Tree) (lines : List Line) (k l : Bool) (p q : ℕ → ℕ) → VariablesStand f.scope.enumerations row k lines (sorts_of f.variables) p a → VariablesStand f.scope.enumerations row l lines (sorts_of f.variables) q b → IsFlatTruth f t
+  is_truth : (a b : Values) (t : Tree) (lines : List Line) (k l : Bool) (p q : ℕ → ℕ) → VariablesAreRepresented f.scope.enumerations row k lines (sorts_of f.variables) p a → VariablesAreRepresented f.scope.enumerations row l lines (sorts_of f.variables) q b → IsFlatTruth f t
       → code_of f.scope.enumerations (term_value (calls_upto f.scope.functions (length f.scope.functions)) a b [] t) ≡ bit (is_true f.scope a b t)
   is_truth a b t lines k l p q v w h =
       code_truth f.scope.enumerations _ (value_sorted f.scope.enumerations f.scope.functions _ (all_suit f.scope.enumerations f.scope.functions functions) (sorts_of f.variables) a b (record { each = v.sorted }) (record { each = w.sorted }) [] [] t Truth tt h)
@@ -171,7 +171,7 @@ module _ (f : PlainFlatSystem) (codes : HaveCodes f.scope.enumerations) (functio
       from_pushed row known lines (now_m lines t) (is_true f.scope now now t) made.grows (constraint_push row lines (now_m lines t) made.grows made.numbered made.stands.width (shorter (now_m lines t) few))
       (λ k met. made.stands.word k met ∙ is_truth now now t lines known known _ _ v.now_known v.now_known h))
 
-  gate_small : (b : Binary) (m : Made) → length (with_binary b m.0 first_place m.1).0 < greatest_id → length m.0 < greatest_id
+  gate_small : (b : Binary) (m : Built) → length (with_binary b m.0 first_place m.1).0 < greatest_id → length m.0 < greatest_id
   gate_small b m h = omega (arith, h, grown_long m.0 (with_binary b m.0 first_place m.1).0 (binary_grows b m.0 first_place m.1))
 
   first_at : (lines : List Line) (k : Bool) → VariablesAreThere f row known both first inputs before now lines → WordAt row k lines first_place 1 (bit first)
@@ -219,7 +219,7 @@ module _ (f : PlainFlatSystem) (codes : HaveCodes f.scope.enumerations) (functio
   init_extends : (lines : List Line) (t : Tree) → Extends lines (with_init f.scope inputs lines t)
   init_extends lines t = go (is_true_term t)
     where
-      grows : GrowsQuietly lines (init_g lines t).0
+      grows : GrowsByShared lines (init_g lines t).0
       grows = grown_then lines (now_m lines t).0 (init_g lines t).0 (term_grows _ _ (calls_grow _ f.scope.functions (length f.scope.functions)) (input_place inputs) (input_place inputs) [] lines t) (binary_grows two.Implies (now_m lines t).0 first_place (now_m lines t).1)
 
       go : (c : Bool) → Extends lines (cond c lines (with_constraint (init_g lines t)))
@@ -229,7 +229,7 @@ module _ (f : PlainFlatSystem) (codes : HaveCodes f.scope.enumerations) (functio
   trans_extends : (lines : List Line) (t : Tree) → Extends lines (with_trans f.scope inputs lines t)
   trans_extends lines t = go (is_true_term t)
     where
-      grows : GrowsQuietly lines (trans_g lines t).0
+      grows : GrowsByShared lines (trans_g lines t).0
       grows = grown_then lines (step_m lines t).0 (trans_g lines t).0 (term_grows _ _ (calls_grow _ f.scope.functions (length f.scope.functions)) (state_place inputs) (input_place inputs) [] lines t) (binary_grows two.Or (step_m lines t).0 first_place (step_m lines t).1)
 
       go : (c : Bool) → Extends lines (cond c lines (with_constraint (trans_g lines t)))

@@ -6,14 +6,14 @@ use Rattle.word_core.specs.declared.kinds.Binary.TheVariants as two
 use Rattle.btor_tree.specs.declared.lines.Line.{Line}
 use Rattle.btor_tree.specs.declared.lines.LineOp.TheVariants as line
 use Rattle.btor_tree.specs.Fits.{is_constraint, operands}
-use Rattle.btor_tree.specs.Sharing.{GrowsQuietly, with_sort}
+use Rattle.btor_tree.specs.Sharing.{GrowsByShared, with_sort}
 use Rattle.btor_tree.proofs.Alike.{pushed_quiet}
 use Rattle.btor_tree.proofs.Paths.{operands_append}
 use Rattle.moxi_terms.specs.Tree.{Tree}
 use Rattle.moxi_scripts.specs.declared.script.Query.{Query}
 use Rattle.moxi_scripts.specs.Script.{formula_at}
 use Rattle.moxi_flat.specs.FlatSystem.{PlainFlatSystem}
-use Rattle.moxi_lines.specs.TermLines.{AllMade, Made, chain_lines, folded_lines, with_binary}
+use Rattle.moxi_lines.specs.TermLines.{AllBuilt, Built, chain_lines, folded_lines, with_binary}
 use Rattle.moxi_lines.proofs.Chains.{binary_grows, chain_grows, folded_grows}
 use Rattle.moxi_lines.proofs.Terms.{calls_grow, term_grows}
 use Rattle.moxi_lines.specs.Lines.{Reaching, first_place, formula_name, has_conditions, input_place, one_place, with_all_met, with_assumptions, with_bad, with_conditions, with_currents, with_formula, with_free, with_given, with_goal, with_latch, with_one_met, with_queries, with_query, with_reachable, with_reachables, zero_place}
@@ -30,7 +30,7 @@ keeps_none lines = record { extends = extends_none lines; constraints = refl }
 keeps_then : (a b c : List Line) → Keeps a b → Keeps b c → Keeps a c
 keeps_then a b c g h = record { extends = extends_then a b c g.extends h.extends; constraints = h.constraints ∙ g.constraints }
 
-keeps_quiet : (a b : List Line) → GrowsQuietly a b → Keeps a b
+keeps_quiet : (a b : List Line) → GrowsByShared a b → Keeps a b
 keeps_quiet a b g = record { extends = quietly a b g; constraints = quiet_constraints a b g }
 
 -- one line more that is no constraint
@@ -53,7 +53,7 @@ init_keeps lines w s p = keeps_then lines (with_sort lines w).0 _ (sort_keeps li
 next_keeps : (lines : List Line) (w s p : ℕ) → Keeps lines (with_given lines line.Next w s p)
 next_keeps lines w s p = keeps_then lines (with_sort lines w).0 _ (sort_keeps lines w) (keeps_line (with_sort lines w).0 _ refl)
 
-bad_keeps : (name : List ℕ) (m : Made) → Keeps m.0 (with_bad name m)
+bad_keeps : (name : List ℕ) (m : Built) → Keeps m.0 (with_bad name m)
 bad_keeps name m = keeps_line m.0 _ refl
 
 latch_keeps : (lines : List Line) (name : List ℕ) (p : ℕ) → Keeps lines (with_latch lines name p).0
@@ -64,19 +64,19 @@ module _ (f : PlainFlatSystem) (inputs : List ℕ) where
   formula_keeps : (lines : List Line) (t : Tree) → Keeps lines (with_formula f.scope inputs lines t).0
   formula_keeps lines t = keeps_quiet lines (with_formula f.scope inputs lines t).0 (term_grows _ _ (calls_grow _ f.scope.functions (length f.scope.functions)) (input_place inputs) (input_place inputs) [] lines t)
 
-  assumptions_keep : (m : AllMade) (is : List ℕ) → Keeps m.0 (with_assumptions f inputs m is).0
+  assumptions_keep : (m : AllBuilt) (is : List ℕ) → Keeps m.0 (with_assumptions f inputs m is).0
   assumptions_keep m [] = keeps_none m.0
   assumptions_keep m (i ∷ is) =
       let n = with_formula f.scope inputs m.0 (formula_at f.assumptions i) in
-      let next : AllMade = (n.0, m.1 ++ n.1 ∷ []) in
+      let next : AllBuilt = (n.0, m.1 ++ n.1 ∷ []) in
       keeps_then m.0 n.0 (with_assumptions f inputs next is).0 (formula_keeps m.0 (formula_at f.assumptions i)) (assumptions_keep next is)
 
-  currents_keep : (m : AllMade) (is : List ℕ) → Keeps m.0 (with_currents f inputs m is).0
+  currents_keep : (m : AllBuilt) (is : List ℕ) → Keeps m.0 (with_currents f inputs m is).0
   currents_keep m [] = keeps_none m.0
   currents_keep m (i ∷ is) =
       let n = with_formula f.scope inputs m.0 (formula_at f.currents i) in
       let g = with_binary two.Implies n.0 first_place n.1 in
-      let next : AllMade = (g.0, m.1 ++ g.1 ∷ []) in
+      let next : AllBuilt = (g.0, m.1 ++ g.1 ∷ []) in
       keeps_then m.0 g.0 (with_currents f inputs next is).0
       (keeps_then m.0 n.0 g.0 (formula_keeps m.0 (formula_at f.currents i)) (keeps_quiet n.0 g.0 (binary_grows two.Implies n.0 first_place n.1))) (currents_keep next is)
 
@@ -115,7 +115,7 @@ module _ (f : PlainFlatSystem) (inputs : List ℕ) where
       keeps_then m.lines all.0 both.0 (keeps_quiet m.lines all.0 (chain_grows two.And m.lines (before ++ m.seen)))
       (keeps_then all.0 some.0 both.0 (keeps_quiet all.0 some.0 (chain_grows two.Or all.0 m.formulas)) (keeps_quiet some.0 both.0 (binary_grows two.And some.0 all.1 some.1)))
 
-  one_met_keeps : (m : Made) (before : List ℕ) → Keeps m.0 (with_one_met m before).0
+  one_met_keeps : (m : Built) (before : List ℕ) → Keeps m.0 (with_one_met m before).0
   one_met_keeps m [] = keeps_none m.0
   one_met_keeps m (p ∷ ps) = keeps_quiet m.0 (with_binary two.And m.0 p m.1).0 (binary_grows two.And m.0 p m.1)
 
@@ -132,7 +132,7 @@ module _ (f : PlainFlatSystem) (inputs : List ℕ) where
       keeps_then lines m.0 (with_one_met m before).0 (formula_keeps lines (formula_at f.reachables r)) (one_met_keeps m before)
   goal_keeps q before lines (r ∷ s ∷ rs) = several_keep q before lines (r ∷ s ∷ rs)
 
-  chosen_keeps : (b : Bool) (lines : List Line) (m n : Made) → Keeps lines m.0 → Keeps lines n.0 → Keeps lines (cond b m n).0
+  chosen_keeps : (b : Bool) (lines : List Line) (m n : Built) → Keeps lines m.0 → Keeps lines n.0 → Keeps lines (cond b m n).0
   chosen_keeps true lines m n g h = g
   chosen_keeps false lines m n g h = h
 
@@ -142,7 +142,7 @@ module _ (f : PlainFlatSystem) (inputs : List ℕ) where
       let g = with_goal f inputs q (c.1 ∷ []) c.0 q.reachables in
       let h = with_goal f inputs q [] lines q.reachables in
       let b = has_conditions q.assumptions q.currents in
-      let m : Made = cond b g h in
+      let m : Built = cond b g h in
       keeps_then lines m.0 (with_bad q.name m) (chosen_keeps b lines g h (keeps_then lines c.0 g.0 (conditions_keep lines q) (goal_keeps q (c.1 ∷ []) c.0 q.reachables)) (goal_keeps q [] lines q.reachables)) (bad_keeps q.name m)
 
   pub queries_keep : (lines : List Line) (qs : List Query) → Keeps lines (with_queries f inputs lines qs)

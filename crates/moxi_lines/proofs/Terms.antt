@@ -11,7 +11,7 @@ use Rattle.word_core.specs.declared.kinds.Binary.TheVariants as two
 use Rattle.btor_tree.specs.declared.lines.Line.{Line}
 use Rattle.btor_tree.specs.declared.lines.LineOp.TheVariants as line
 use Rattle.btor_tree.specs.Fits.{greatest_id, plain_arg, width_at}
-use Rattle.btor_tree.specs.Sharing.{GrowsQuietly}
+use Rattle.btor_tree.specs.Sharing.{GrowsByShared}
 use Rattle.moxi_terms.specs.declared.data.Sort.{Sort}
 use Rattle.moxi_terms.specs.declared.data.Datum.{Datum}
 use Rattle.moxi_terms.specs.declared.data.Datum.TheVariants as datum
@@ -25,8 +25,8 @@ use Rattle.moxi_terms.specs.Value.{Calls, Values, at, body_at, calls_upto, term_
 use Rattle.moxi_terms.specs.Sorted.{AreFunctions, HasSort, HaveSorts}
 use Rattle.moxi_terms.proofs.ValueLaws.{CallsSuit, calls_at, calls_suit, fit_append, fit_at, read_at, taken_at, values_sorted}
 use Rattle.moxi_lines.specs.Codes.{code_of, sort_bits}
-use Rattle.moxi_lines.specs.TermLines.{CallLines, Made, call_lines, neighbours, pairs_of, place_in, with_constant, with_datum, with_operator, with_term, with_terms}
-use Rattle.moxi_lines.specs.TermLaws.{AreNumbered, HaveCodes, Makes, StandFor, StandsFor, VariablesStand}
+use Rattle.moxi_lines.specs.TermLines.{CallLines, Built, call_lines, neighbours, pairs_of, place_in, with_constant, with_datum, with_operator, with_term, with_terms}
+use Rattle.moxi_lines.specs.TermLaws.{AreNumbered, HaveCodes, Makes, RepresentEach, Represents, VariablesAreRepresented}
 use Rattle.moxi_lines.proofs.Growing.{grown_long, grown_meets, grown_none, grown_then, grown_width}
 use Rattle.moxi_lines.proofs.Steps.{constant_step, one_step, word_grows, zero_step}
 use Rattle.moxi_lines.proofs.Chains.{binary_grows, chain_grows, compared_grows, implied_grows}
@@ -35,8 +35,8 @@ use Rattle.moxi_lines.proofs.Operators.{AllStand, Operand, data_of, operand, ope
 
 -- ---- growth
 
-abbrev Grows : List Line → Made → Type 0
-Grows lines m = GrowsQuietly lines m.0
+abbrev Grows : List Line → Built → Type 0
+Grows lines m = GrowsByShared lines m.0
 
 constant_grows : (lines : List Line) (c : BitVector) → Grows lines (with_constant lines c)
 constant_grows lines c = word_grows lines (line.Constant c) c.width [] refl
@@ -90,7 +90,7 @@ pub record CallsGrow (calls : CallLines) : Type 0 where
 
 module _ (es : List Enumeration) (calls : CallLines) (grow : CallsGrow calls) (now later : ℕ → ℕ) where
   mutual
-    pub term_grows : (bounds : List ℕ) (lines : List Line) (t : Tree) → GrowsQuietly lines (with_term es calls now later bounds lines t).0
+    pub term_grows : (bounds : List ℕ) (lines : List Line) (t : Tree) → GrowsByShared lines (with_term es calls now later bounds lines t).0
     term_grows bounds lines (constant d) = datum_grows es lines d
     term_grows bounds lines (variable v primed) = grown_none lines
     term_grows bounds lines (bound i) = grown_none lines
@@ -104,13 +104,13 @@ module _ (es : List Enumeration) (calls : CallLines) (grow : CallsGrow calls) (n
         let m = with_terms es calls now later bounds lines ts in
         grown_then lines m.0 (calls n m.0 m.1).0 (terms_grow bounds lines ts) (grow.each n m.0 m.1)
 
-    pub terms_grow : (bounds : List ℕ) (lines : List Line) (ts : Trees) → GrowsQuietly lines (with_terms es calls now later bounds lines ts).0
+    pub terms_grow : (bounds : List ℕ) (lines : List Line) (ts : Trees) → GrowsByShared lines (with_terms es calls now later bounds lines ts).0
     terms_grow bounds lines no_trees = grown_none lines
     terms_grow bounds lines (tree t ts) =
         let m = with_term es calls now later bounds lines t in
         grown_then lines m.0 (with_terms es calls now later bounds m.0 ts).0 (term_grows bounds lines t) (terms_grow bounds m.0 ts)
 
-cond_grows : (b : Bool) (lines : List Line) (m n : Made) → Grows lines m → Grows lines n → Grows lines (cond b m n)
+cond_grows : (b : Bool) (lines : List Line) (m n : Built) → Grows lines m → Grows lines n → Grows lines (cond b m n)
 cond_grows true lines m n g h = g
 cond_grows false lines m n g h = h
 
@@ -125,11 +125,11 @@ calls_grow es fs (suc k) =
 -- ---- words
 
 module _ (es : List Enumeration) (row : List BitVector) (known : Bool) where
-  pub later_stands : (a b : List Line) (p : ℕ) (s : Sort) (d : Datum) → GrowsQuietly a b → StandsFor es row known a p s d → StandsFor es row known b p s d
+  pub later_stands : (a b : List Line) (p : ℕ) (s : Sort) (d : Datum) → GrowsByShared a b → Represents es row known a p s d → Represents es row known b p s d
   later_stands a b p s d g x =
       record { wide = x.wide; width = grown_width a b p (sort_bits es s) x.wide g x.width; word = λ k m. x.word k (grown_meets a b row g m) }
 
-  pub all_later : (a b : List Line) (ps : List ℕ) (ss : List Sort) (ds : List Datum) → GrowsQuietly a b → StandFor es row known a ps ss ds → StandFor es row known b ps ss ds
+  pub all_later : (a b : List Line) (ps : List ℕ) (ss : List Sort) (ds : List Datum) → GrowsByShared a b → RepresentEach es row known a ps ss ds → RepresentEach es row known b ps ss ds
   all_later a b [] [] [] g x = tt
   all_later a b [] [] (d ∷ ds) g x = absurd x
   all_later a b [] (s ∷ ss) ds g x = absurd x
@@ -137,7 +137,7 @@ module _ (es : List Enumeration) (row : List BitVector) (known : Bool) where
   all_later a b (p ∷ ps) (s ∷ ss) [] g x = absurd x
   all_later a b (p ∷ ps) (s ∷ ss) (d ∷ ds) g x = (later_stands a b p s d g x.0, all_later a b ps ss ds g x.1)
 
-  pub both_stand : (lines : List Line) (ps qs : List ℕ) (ss ts : List Sort) (ds es' : List Datum) → StandFor es row known lines ps ss ds → StandFor es row known lines qs ts es' → StandFor es row known lines (ps ++ qs) (ss ++ ts) (ds ++ es')
+  pub both_stand : (lines : List Line) (ps qs : List ℕ) (ss ts : List Sort) (ds es' : List Datum) → RepresentEach es row known lines ps ss ds → RepresentEach es row known lines qs ts es' → RepresentEach es row known lines (ps ++ qs) (ss ++ ts) (ds ++ es')
   both_stand lines [] qs [] ts [] es' x y = y
   both_stand lines [] qs [] ts (d ∷ ds) es' x y = absurd x
   both_stand lines [] qs (s ∷ ss) ts ds es' x y = absurd x
@@ -145,14 +145,14 @@ module _ (es : List Enumeration) (row : List BitVector) (known : Bool) where
   both_stand lines (p ∷ ps) qs (s ∷ ss) ts [] es' x y = absurd x
   both_stand lines (p ∷ ps) qs (s ∷ ss) ts (d ∷ ds) es' x y = (x.0, both_stand lines ps qs ss ts ds es' x.1 y)
 
-  pub stands_in : (lines : List Line) (ps : List ℕ) (ss : List Sort) (ds : List Datum) (i : ℕ) (s : Sort) → StandFor es row known lines ps ss ds → slice_get ss i ≡ Some s → StandsFor es row known lines (place_in ps i) s (at ds i)
+  pub stands_in : (lines : List Line) (ps : List ℕ) (ss : List Sort) (ds : List Datum) (i : ℕ) (s : Sort) → RepresentEach es row known lines ps ss ds → slice_get ss i ≡ Some s → Represents es row known lines (place_in ps i) s (at ds i)
   stands_in lines ps [] ds i s x h = absurd (none-some s h)
   stands_in lines [] (t ∷ ss) ds i s x h = absurd x
   stands_in lines (p ∷ ps) (t ∷ ss) [] i s x h = absurd x
-  stands_in lines (p ∷ ps) (t ∷ ss) (d ∷ ds) zero s x h = subst (λ u. StandsFor es row known lines p u d) (same_Some t s h) x.0
+  stands_in lines (p ∷ ps) (t ∷ ss) (d ∷ ds) zero s x h = subst (λ u. Represents es row known lines p u d) (same_Some t s h) x.0
   stands_in lines (p ∷ ps) (t ∷ ss) (d ∷ ds) (suc i) s x h = stands_in lines ps ss ds i s x.1 h
 
-  later_variables : (a b : List Line) (vars : List Sort) (places : ℕ → ℕ) (values : Values) → GrowsQuietly a b → VariablesStand es row known a vars places values → VariablesStand es row known b vars places values
+  later_variables : (a b : List Line) (vars : List Sort) (places : ℕ → ℕ) (values : Values) → GrowsByShared a b → VariablesAreRepresented es row known a vars places values → VariablesAreRepresented es row known b vars places values
   later_variables a b vars places values g x = record { sorted = x.sorted; each = λ v s h. later_stands a b (places v) s (values v) g (x.each v s h) }
 
   -- the arguments as operands
@@ -163,7 +163,7 @@ module _ (es : List Enumeration) (row : List BitVector) (known : Bool) where
     data_are : data_of list ≡ ds
     stand : AllStand es row known lines n list
 
-  listed : (lines : List Line) (n : AreNumbered lines) (ps : List ℕ) (ss : List Sort) (ds : List Datum) → StandFor es row known lines ps ss ds → Fit es ss ds → Listed lines n ps ss ds
+  listed : (lines : List Line) (n : AreNumbered lines) (ps : List ℕ) (ss : List Sort) (ds : List Datum) → RepresentEach es row known lines ps ss ds → Fit es ss ds → Listed lines n ps ss ds
   listed lines n [] [] [] x f = record { list = []; places_are = refl; sorts_are = refl; data_are = refl; stand = tt }
   listed lines n [] [] (d ∷ ds) x f = absurd f
   listed lines n [] (s ∷ ss) ds x f = absurd x
@@ -179,7 +179,7 @@ module _ (es : List Enumeration) (row : List BitVector) (known : Bool) where
         stand = ((x.0, f.0), r.stand);
       }
 
-  applied : (lines : List Line) (n : AreNumbered lines) (o : TermOp) (ps : List ℕ) (ss : List Sort) (ds : List Datum) (s : Sort) → StandFor es row known lines ps ss ds → Fit es ss ds → op_sort o ss ≡ Ok s
+  applied : (lines : List Line) (n : AreNumbered lines) (o : TermOp) (ps : List ℕ) (ss : List Sort) (ds : List Datum) (s : Sort) → RepresentEach es row known lines ps ss ds → Fit es ss ds → op_sort o ss ≡ Ok s
       → length (with_operator o lines ps).0 < greatest_id → Makes es row known lines (with_operator o lines ps) s (op_value o ds)
   applied lines n o ps ss ds s x f h room =
       let r = listed lines n ps ss ds x f in
@@ -188,7 +188,7 @@ module _ (es : List Enumeration) (row : List BitVector) (known : Bool) where
       (subst (λ vs. Makes es row known lines (with_operator o lines (places r.list)) s (op_value o vs)) r.data_are made)
 
   -- what was made of lines that something was made of before
-  behind : (a b : List Line) (m : Made) (s : Sort) (d : Datum) → GrowsQuietly a b → Makes es row known b m s d → Makes es row known a m s d
+  behind : (a b : List Line) (m : Built) (s : Sort) (d : Datum) → GrowsByShared a b → Makes es row known b m s d → Makes es row known a m s d
   behind a b m s d g x = record { grows = grown_then a b m.0 g x.grows; numbered = x.numbered; stands = x.stands }
 
   module _ (codes : HaveCodes es) where
@@ -213,23 +213,23 @@ module _ (es : List Enumeration) (row : List BitVector) (known : Bool) where
     -- what calls make, for arguments of the parameters' sorts
     record CallsMake (fs : List PlainFunction) (made : CallLines) (calls : Calls) : Type 0 where
       each : (n : ℕ) (f : PlainFunction) (lines : List Line) (ps : List ℕ) (ds : List Datum) → slice_get fs n ≡ Some f → AreNumbered lines → Fit es (sorts_of f.parameters) ds
-          → StandFor es row known lines ps (sorts_of f.parameters) ds → length (made n lines ps).0 < greatest_id → Makes es row known lines (made n lines ps) f.result (calls n ds)
+          → RepresentEach es row known lines ps (sorts_of f.parameters) ds → length (made n lines ps).0 < greatest_id → Makes es row known lines (made n lines ps) f.result (calls n ds)
 
     record AllMakes (lines : List Line) (m : List Line × List ℕ) (ss : List Sort) (ds : List Datum) : Type 0 where
-      grows : GrowsQuietly lines m.0
+      grows : GrowsByShared lines m.0
       numbered : AreNumbered m.0
-      stand : StandFor es row known m.0 m.1 ss ds
+      stand : RepresentEach es row known m.0 m.1 ss ds
 
     module _ (fs : List PlainFunction) (made : CallLines) (calls : Calls) (grow : CallsGrow made) (make : CallsMake fs made calls) (suit : CallsSuit es fs calls)
         (vars : List Sort) (now later : ℕ → ℕ) (now_values later_values : Values) where
-      values_fit : (bounds : List Sort) (vals : List Datum) (ts : Trees) (ss : List Sort) {lines : List Line} → VariablesStand es row known lines vars now now_values → VariablesStand es row known lines vars later later_values → Fit es bounds vals
+      values_fit : (bounds : List Sort) (vals : List Datum) (ts : Trees) (ss : List Sort) {lines : List Line} → VariablesAreRepresented es row known lines vars now now_values → VariablesAreRepresented es row known lines vars later later_values → Fit es bounds vals
           → HaveSorts es fs vars bounds ts ss → Fit es ss (term_values calls now_values later_values vals ts)
       values_fit bounds vals ts ss v w f h =
           values_sorted es fs calls suit vars now_values later_values (record { each = v.sorted }) (record { each = w.sorted }) bounds vals ts ss f h
 
       mutual
         term_made : (bounds : List Sort) (places : List ℕ) (vals : List Datum) (lines : List Line) (t : Tree) (s : Sort) → AreNumbered lines
-            → VariablesStand es row known lines vars now now_values → VariablesStand es row known lines vars later later_values → Fit es bounds vals → StandFor es row known lines places bounds vals
+            → VariablesAreRepresented es row known lines vars now now_values → VariablesAreRepresented es row known lines vars later later_values → Fit es bounds vals → RepresentEach es row known lines places bounds vals
             → HasSort es fs vars bounds t s → length (with_term es made now later places lines t).0 < greatest_id
             → Makes es row known lines (with_term es made now later places lines t) s (term_value calls now_values later_values vals t)
         term_made bounds places vals lines (constant d) s n v w f b h room = datum_made lines s d n h room
@@ -260,7 +260,7 @@ module _ (es : List Enumeration) (row : List BitVector) (known : Bool) where
             (subst (λ u. Makes es row known m.0 (made i m.0 m.1) u (calls i (term_values calls now_values later_values vals ts))) h.3 (make.each i h.0 m.0 m.1 _ h.1 r.numbered g r.stand room))
 
         terms_made : (bounds : List Sort) (places : List ℕ) (vals : List Datum) (lines : List Line) (ts : Trees) (ss : List Sort) → AreNumbered lines
-            → VariablesStand es row known lines vars now now_values → VariablesStand es row known lines vars later later_values → Fit es bounds vals → StandFor es row known lines places bounds vals
+            → VariablesAreRepresented es row known lines vars now now_values → VariablesAreRepresented es row known lines vars later later_values → Fit es bounds vals → RepresentEach es row known lines places bounds vals
             → HaveSorts es fs vars bounds ts ss → length (with_terms es made now later places lines ts).0 < greatest_id
             → AllMakes lines (with_terms es made now later places lines ts) ss (term_values calls now_values later_values vals ts)
         terms_made bounds places vals lines no_trees [] n v w f b h room = record { grows = grown_none lines; numbered = n; stand = tt }
@@ -287,7 +287,7 @@ module _ (es : List Enumeration) (row : List BitVector) (known : Bool) where
               ∙ lines_at fs k n lines ps (let h2 : n < k = grind arith in h2)
         ]
 
-    parameters_stand : (lines : List Line) (ps : List ℕ) (ss : List Sort) (ds : List Datum) → Fit es ss ds → StandFor es row known lines ps ss ds → VariablesStand es row known lines ss (place_in ps) (at ds)
+    parameters_stand : (lines : List Line) (ps : List ℕ) (ss : List Sort) (ds : List Datum) → Fit es ss ds → RepresentEach es row known lines ps ss ds → VariablesAreRepresented es row known lines ss (place_in ps) (at ds)
     parameters_stand lines ps ss ds f x = record { sorted = λ v s h. fit_at es ss ds v s f h; each = λ v s h. stands_in lines ps ss ds v s x h }
 
     -- by induction on a bound of the number
@@ -304,12 +304,12 @@ module _ (es : List Enumeration) (row : List BitVector) (known : Bool) where
               let value : calls_upto fs k n ds ≡ term_value (calls_upto fs n) (at ds) (at ds) [] f.body = calls_at fs k n ds p.1 ∙ ap (term_value (calls_upto fs n) (at ds) (at ds) []) e in
               let given = parameters_stand lines ps (sorts_of f.parameters) ds fit x in
               let done = term_made (take n fs) (call_lines es fs n) (calls_upto fs n) (calls_grow es fs n) (make_below fs a b n n_small) (calls_suit es fs a n) (sorts_of f.parameters) (place_in ps) (place_in ps) (at ds) (at ds)
-              [] [] [] lines f.body f.result m given given tt tt (a n f p.0).body (subst (λ (z : Made). length z.0 < greatest_id) here room) in
-              subst (λ (z : Made). Makes es row known lines z f.result (calls_upto fs k n ds)) (sym here) (subst (λ v. Makes es row known lines (with_term es (call_lines es fs n) (place_in ps) (place_in ps) [] lines f.body) f.result v) (sym value) done);
+              [] [] [] lines f.body f.result m given given tt tt (a n f p.0).body (subst (λ (z : Built). length z.0 < greatest_id) here room) in
+              subst (λ (z : Built). Makes es row known lines z f.result (calls_upto fs k n ds)) (sym here) (subst (λ v. Makes es row known lines (with_term es (call_lines es fs n) (place_in ps) (place_in ps) [] lines f.body) f.result v) (sym value) done);
         }
 
     pub whole_made : (fs : List PlainFunction) → AreFunctions es fs → (vars : List Sort) (t : Tree) (s : Sort) → HasSort es fs vars [] t s → (lines : List Line) → AreNumbered lines
-        → (now later : ℕ → ℕ) (now_values later_values : Values) → VariablesStand es row known lines vars now now_values → VariablesStand es row known lines vars later later_values
+        → (now later : ℕ → ℕ) (now_values later_values : Values) → VariablesAreRepresented es row known lines vars now now_values → VariablesAreRepresented es row known lines vars later later_values
         → length (with_term es (call_lines es fs (length fs)) now later [] lines t).0 < greatest_id
         → Makes es row known lines (with_term es (call_lines es fs (length fs)) now later [] lines t) s (term_value (calls_upto fs (length fs)) now_values later_values [] t)
     whole_made fs a vars t s h lines n now later now_values later_values v w room =

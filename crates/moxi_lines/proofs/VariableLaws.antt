@@ -15,7 +15,7 @@ use Rattle.btor_tree.specs.declared.lines.LineOp.{LineOp}
 use Rattle.btor_tree.specs.declared.lines.LineOp.TheVariants as line
 use Rattle.btor_tree.specs.Fits.{Suits, greatest_id, is_constraint, is_input, is_next, is_state, kind_at, operands, plain_arg, state_value, value_for, width_at}
 use Rattle.btor_tree.specs.Frame.{ConstraintsHold, Meets, operand, true_word, word_at}
-use Rattle.btor_tree.specs.Sharing.{GrowsQuietly, is_shared, next_line, with_sort}
+use Rattle.btor_tree.specs.Sharing.{GrowsByShared, is_shared, next_line, with_sort}
 use Rattle.btor_tree.proofs.AtPlaces.{is_kind}
 use Rattle.btor_tree.proofs.Alike.{pushed_quiet}
 use Rattle.btor_tree.proofs.Equations.{pushed_fit}
@@ -29,7 +29,7 @@ use Rattle.moxi_terms.specs.Sorted.{AreSorts}
 use Rattle.moxi_terms.specs.Sorts.{IsSort}
 use Rattle.moxi_terms.specs.Tree.{sorts_of}
 use Rattle.moxi_lines.specs.Codes.{choice_width, constant_count, sort_bits}
-use Rattle.moxi_lines.specs.TermLines.{AllMade, Made, with_binary, with_constant}
+use Rattle.moxi_lines.specs.TermLines.{AllBuilt, Built, with_binary, with_constant}
 use Rattle.moxi_lines.specs.TermLaws.{AreNumbered, HaveCodes}
 use Rattle.moxi_lines.proofs.CodeLaws.{choice_high, choice_holds, count_is, width_low}
 use Rattle.moxi_lines.proofs.Growing.{grown_long, grown_then, grown_width, wide_inside}
@@ -62,7 +62,7 @@ given_extends lines w x p =
     let s = with_sort lines w in
     extends_then lines s.0 (with_given lines line.Next w x p) (quietly lines s.0 (pushed_sorts lines w)) (record { more = _; is = refl })
   where
-    pushed_sorts : (lines : List Line) (w : ℕ) → GrowsQuietly lines (with_sort lines w).0
+    pushed_sorts : (lines : List Line) (w : ℕ) → GrowsByShared lines (with_sort lines w).0
     pushed_sorts lines w = pushed_quiet lines (line.Sort w) 0 [] None refl
 
 next_given : (lines : List Line) (w x p : ℕ) → AreNumbered lines → 1 ≤ w → w ≤ WIDEST → width_at lines x ≡ w → width_at lines p ≡ w → kind_at is_state lines x ≡ true → state_value is_next lines x ≡ None
@@ -99,13 +99,13 @@ record CodeAdded (row : List BitVector) (es : List Enumeration) (s : Sort) (line
   numbered : AreNumbered new
   constraints : Meets new row → (ConstraintsHold new row → ConstraintsHold lines row × IsInside es s (word_at row p)) × (ConstraintsHold lines row → IsInside es s (word_at row p) → ConstraintsHold new row)
 
-abbrev pub code_m : List Line → ℕ → Made
+abbrev pub code_m : List Line → ℕ → Built
 code_m lines c = with_constant lines (record { width = choice_width c; bits = c })
 
-abbrev pub code_g : List Line → ℕ → ℕ → Made
+abbrev pub code_g : List Line → ℕ → ℕ → Built
 code_g lines p c = with_binary two.Ult (code_m lines c).0 p (code_m lines c).1
 
-pub code_grows : (lines : List Line) (p c : ℕ) → GrowsQuietly lines (code_g lines p c).0
+pub code_grows : (lines : List Line) (p c : ℕ) → GrowsByShared lines (code_g lines p c).0
 code_grows lines p c =
     grown_then lines (code_m lines c).0 (code_g lines p c).0 (word_grows lines (line.Constant (record { width = choice_width c; bits = c })) (choice_width c) [] refl) (binary_grows two.Ult (code_m lines c).0 p (code_m lines c).1)
 
@@ -224,10 +224,10 @@ state_extends lines w name =
     let s = with_sort lines w in
     extends_then lines s.0 (with_free lines line.State w name).0 (quietly lines s.0 (pushed_quiet lines (line.Sort w) 0 [] None refl)) (record { more = _; is = refl })
 
-abbrev input_m : List Enumeration → List Line → Variable → Made
+abbrev input_m : List Enumeration → List Line → Variable → Built
 input_m es lines v = with_free lines line.Input (sort_bits es v.sort) v.name
 
-abbrev state_m : List Enumeration → List Line → Variable → Made
+abbrev state_m : List Enumeration → List Line → Variable → Built
 state_m es lines v = with_free (input_m es lines v).0 line.State (sort_bits es v.sort) (v.name ++ codes ".prev")
 
 abbrev next_m : List Enumeration → List Line → Variable → List Line
@@ -242,7 +242,7 @@ variable_extends es lines v =
     (extends_then i.0 s.0 (with_variable es lines v).0 (state_extends i.0 (sort_bits es v.sort) (v.name ++ codes ".prev"))
     (extends_then s.0 n (with_variable es lines v).0 (given_extends s.0 (sort_bits es v.sort) s.1 i.1) (code_extends es v.sort n i.1)))
 
-record VariableMade (row : List BitVector) (es : List Enumeration) (lines : List Line) (v : Variable) (m : Made) : Type 0 where
+record VariableMade (row : List BitVector) (es : List Enumeration) (lines : List Line) (v : Variable) (m : Built) : Type 0 where
   numbered : AreNumbered m.0
   each : IsVariableAt es m.0 v m.1
   constraints : Meets m.0 row → (ConstraintsHold m.0 row → ConstraintsHold lines row × IsInside es v.sort (word_at row m.1)) × (ConstraintsHold lines row → IsInside es v.sort (word_at row m.1) → ConstraintsHold m.0 row)
@@ -286,25 +286,25 @@ variable_made row es have lines v sort n room =
 
 -- ---- all variables
 
-pub all_extend : (es : List Enumeration) (m : AllMade) (vs : List Variable) → Extends m.0 (with_variables es m vs).0
+pub all_extend : (es : List Enumeration) (m : AllBuilt) (vs : List Variable) → Extends m.0 (with_variables es m vs).0
 all_extend es m [] = extends_none m.0
 all_extend es m (v ∷ vs) =
     let one = with_variable es m.0 v in
     extends_then m.0 one.0 (with_variables es (one.0, m.1 ++ one.1 ∷ []) vs).0 (variable_extends es m.0 v) (all_extend es (one.0, m.1 ++ one.1 ∷ []) vs)
 
-pub record AllVariablesMade (row : List BitVector) (es : List Enumeration) (m : AllMade) (vs : List Variable) (r : AllMade) : Type 0 where
+pub record AllVariablesMade (row : List BitVector) (es : List Enumeration) (m : AllBuilt) (vs : List Variable) (r : AllBuilt) : Type 0 where
   pub new : List ℕ
   pub places : r.1 ≡ m.1 ++ new
   pub numbered : AreNumbered r.0
   pub each : AreVariablesAt es r.0 vs new
   pub constraints : Meets r.0 row → (ConstraintsHold r.0 row → ConstraintsHold m.0 row × AreInside es row vs new) × (ConstraintsHold m.0 row → AreInside es row vs new → ConstraintsHold r.0 row)
 
-pub all_made : (row : List BitVector) (es : List Enumeration) → HaveCodes es → (m : AllMade) (vs : List Variable) → AreSorts es (sorts_of vs) → AreNumbered m.0 → length (with_variables es m vs).0 < greatest_id → AllVariablesMade row es m vs (with_variables es m vs)
+pub all_made : (row : List BitVector) (es : List Enumeration) → HaveCodes es → (m : AllBuilt) (vs : List Variable) → AreSorts es (sorts_of vs) → AreNumbered m.0 → length (with_variables es m vs).0 < greatest_id → AllVariablesMade row es m vs (with_variables es m vs)
 all_made row es have m [] sorts n room =
     record { new = []; places = sym (append-nil m.1); numbered = n; each = tt; constraints = λ met. (λ h. (h, tt), λ h i. h) }
 all_made row es have m (v ∷ vs) sorts n room =
     let one = with_variable es m.0 v in
-    let next : AllMade = (one.0, m.1 ++ one.1 ∷ []) in
+    let next : AllBuilt = (one.0, m.1 ++ one.1 ∷ []) in
     let r = with_variables es next vs in
     let g = all_extend es next vs in
     let few : length one.0 < greatest_id = omega (arith, room, extends_long one.0 r.0 g) in

@@ -11,13 +11,13 @@ use Rattle.btor_tree.specs.declared.lines.Line.{Line}
 use Rattle.btor_tree.specs.declared.lines.LineOp.{LineOp}
 use Rattle.btor_tree.specs.declared.lines.LineOp.TheVariants as line
 use Rattle.btor_tree.specs.Fits.{IsSymbol, IsSymbolByte, OpFits, Suits, greatest_id, has_word, is_constraint, is_next, operands, sort_at, state_value, value_for, width_at}
-use Rattle.btor_tree.specs.Sharing.{GrowsQuietly, SaysAt, next_line, place_alike, placed, with_sort}
+use Rattle.btor_tree.specs.Sharing.{GrowsByShared, SaysAt, next_line, place_of_equal, placed, with_sort}
 use Rattle.btor_tree.proofs.Alike.{none_says, pushed_quiet, pushed_says, pushed_sort}
 use Rattle.btor_tree.proofs.Grows.{slice_get_end, slice_get_front}
 use Rattle.btor_tree.proofs.Equations.{pushed_fit, pushed_wide}
 use Rattle.btor_tree.proofs.Paths.{fresh, operands_append, state_value_append}
 use Rattle.btor_tree.proofs.Widths.{option_cases}
-use Rattle.moxi_lines.specs.TermLines.{Made}
+use Rattle.moxi_lines.specs.TermLines.{Built}
 use Rattle.moxi_lines.specs.TermLaws.{AreNumbered}
 use Rattle.moxi_lines.proofs.Growing.{grown_long}
 use Rattle.moxi_lines.specs.Lines.{symbol_byte, symbol_of, with_free}
@@ -45,7 +45,7 @@ symbol_is (b ∷ bs) = (omega arith, bytes_are (b ∷ bs))
 -- a sort that stands already isn't written again
 pub sort_again : (ls : List Line) (w p : ℕ) → SaysAt ls p (line.Sort w) 0 [] → (with_sort ls w).0 ≡ ls
 sort_again ls w p says =
-    elim (option_cases (place_alike ls (line.Sort w) 0 [])) [
+    elim (option_cases (place_of_equal ls (line.Sort w) 0 [])) [
       | inl n ↦ absurd (none_says ls (line.Sort w) 0 [] n p says.0 says.1 says.2)
       | inr s ↦ ap (λ o. (placed o ls (next_line ls (line.Sort w) 0 [] None)).0) s.1
     ]
@@ -54,7 +54,7 @@ says_later : (ls more : List Line) (p : ℕ) (o : LineOp) (sort : ℕ) (args : L
 says_later ls more p o sort args s = (s.0, slice_get_front ls more p s.0 s.1, s.2)
 
 pub record Sorted (lines : List Line) (w : ℕ) : Type 0 where
-  pub grows : GrowsQuietly lines (with_sort lines w).0
+  pub grows : GrowsByShared lines (with_sort lines w).0
   pub numbered : AreNumbered (with_sort lines w).0
   pub sort : sort_at (with_sort lines w).0 (with_sort lines w).1 ≡ w
 
@@ -86,7 +86,7 @@ free_word line.Input h = refl
 free_word line.State h = refl
 free_word o h = absurd (cc)
 
-pub record Freed (lines : List Line) (o : LineOp) (w : ℕ) (m : Made) : Type 0 where
+pub record Freed (lines : List Line) (o : LineOp) (w : ℕ) (m : Built) : Type 0 where
   pub extends : Extends lines m.0
   pub numbered : AreNumbered m.0
   pub width : width_at m.0 m.1 ≡ w
@@ -113,23 +113,23 @@ freed o free lines w name n low high room =
     let l = next_line s.0 o s.1 [] (symbol_of name) in
     let e = free_end o free lines w name in
     let m = with_free lines o w name in
-    let long : length m.0 ≡ length s.0 + 1 = ap (λ (z : Made). length z.0) e ∙ length_push s.0 l in
+    let long : length m.0 ≡ length s.0 + 1 = ap (λ (z : Built). length z.0) e ∙ length_push s.0 l in
     let g = pushed_quiet lines (line.Sort w) 0 [] None refl in
     let few : length lines < greatest_id = omega (arith, room, long, grown_long lines s.0 g) in
     let k = sorted lines w n low high few in
     let suits : Suits s.0 o s.1 [] (symbol_of name) = record { earlier = tt; sorts = free_fits o free s.0 s.1 (subst (λ i. 1 ≤ i) (sym k.sort) low); symbol = symbol_is name } in
     let fits = pushed_fit s.0 o s.1 [] (symbol_of name) k.numbered.fit k.numbered.ids (omega (arith, room, long)) suits in
     record {
-      extends = extends_then lines s.0 m.0 (quietly lines s.0 k.grows) (record { more = l ∷ []; is = ap (λ (z : Made). z.0) e });
+      extends = extends_then lines s.0 m.0 (quietly lines s.0 k.grows) (record { more = l ∷ []; is = ap (λ (z : Built). z.0) e });
       numbered = record { fit = fits.0; ids = fits.1 };
       width = pushed_wide s.0 o s.1 [] (symbol_of name) k.numbered.fit suits (free_word o free) ∙ k.sort;
-      there = subst (λ (z : Made). (x : Line) × (slice_get z.0 z.1 ≡ Some x) × (x.op ≡ o)) (sym e) (l, slice_get_end s.0 l, refl);
-      place = ap (λ (z : Made). z.1) e;
-      end = let q : m.1 ≡ length s.0 = ap (λ (z : Made). z.1) e in omega (arith, long, q);
-      sort = (s.1, subst (λ (z : Made). SaysAt z.0 s.1 (line.Sort w) 0 []) (sym e) (says_later s.0 (l ∷ []) s.1 (line.Sort w) 0 [] (pushed_says lines (line.Sort w) 0 [] None)));
-      no_next = subst (λ (z : Made). state_value is_next z.0 z.1 ≡ None) (sym e)
+      there = subst (λ (z : Built). (x : Line) × (slice_get z.0 z.1 ≡ Some x) × (x.op ≡ o)) (sym e) (l, slice_get_end s.0 l, refl);
+      place = ap (λ (z : Built). z.1) e;
+      end = let q : m.1 ≡ length s.0 = ap (λ (z : Built). z.1) e in omega (arith, long, q);
+      sort = (s.1, subst (λ (z : Built). SaysAt z.0 s.1 (line.Sort w) 0 []) (sym e) (says_later s.0 (l ∷ []) s.1 (line.Sort w) 0 [] (pushed_says lines (line.Sort w) 0 [] None)));
+      no_next = subst (λ (z : Built). state_value is_next z.0 z.1 ≡ None) (sym e)
           (state_value_append is_next s.0 (l ∷ []) (length s.0) ∙ ap (λ z. option_or z (state_value is_next (l ∷ []) (length s.0))) (fresh is_next s.0 (length s.0) k.numbered.fit (omega arith))
           ∙ ap (λ b. option_or (cond b (value_for l.args (length s.0)) None) None) (free_next o free));
-      constraints = ap (λ (z : Made). operands is_constraint z.0) e ∙ operands_append is_constraint s.0 (l ∷ []) ∙ ap (λ z. z ++ operands is_constraint (l ∷ [])) (quiet_constraints lines s.0 g)
+      constraints = ap (λ (z : Built). operands is_constraint z.0) e ∙ operands_append is_constraint s.0 (l ∷ []) ∙ ap (λ z. z ++ operands is_constraint (l ∷ [])) (quiet_constraints lines s.0 g)
           ∙ ap (λ b. operands is_constraint lines ++ (cond b l.args [] ++ [])) (free_constraint o free) ∙ append-nil (operands is_constraint lines);
     }

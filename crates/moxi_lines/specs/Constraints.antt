@@ -14,7 +14,7 @@ use Rattle.moxi_terms.specs.View.{ScopeState}
 use Rattle.moxi_scripts.specs.Script.{calls_in}
 use Rattle.moxi_flat.specs.FlatSorts.{PartIsSorted}
 use Rattle.moxi_flat.specs.FlatSystem.{PlainFlatSystem, PlainPart}
-use Rattle.moxi_lines.specs.TermLaws.{AreNumbered, HaveCodes, VariablesStand}
+use Rattle.moxi_lines.specs.TermLaws.{AreNumbered, HaveCodes, VariablesAreRepresented}
 use Rattle.moxi_lines.specs.Lines.{first_place, input_place, state_place, with_parts}
 
 -- a formula is true of the values before and now
@@ -35,15 +35,15 @@ pub record Constrains (row : List BitVector) (known : Bool) (lines new : List Li
   pub numbered : AreNumbered new
   pub constraints : known ≡ true → Meets new row → ConstraintsHold new row ↔ (ConstraintsHold lines row × (b ≡ true))
 
--- What stands in lines for a system's formulas: `first`, and the variables at their places. The words of the step before need be
+-- What is in lines for a system's formulas: `first`, and the variables at their places. The words of the step before need be
 -- known in frames that aren't the first.
 pub record VariablesAreThere (f : PlainFlatSystem) (row : List BitVector) (known both first : Bool) (inputs : List ℕ) (before now : Values) (lines : List Line) : Type 0 where
   pub first_width : width_at lines first_place ≡ 1
   pub first_word : Meets lines row → word_at row first_place ≡ record { width = 1; bits = bit_of first }
   pub later : first ≡ false → known ≡ true → both ≡ true
-  pub now_known : VariablesStand f.scope.enumerations row known lines (sorts_of f.variables) (input_place inputs) now
-  pub now_both : VariablesStand f.scope.enumerations row both lines (sorts_of f.variables) (input_place inputs) now
-  pub before_both : VariablesStand f.scope.enumerations row both lines (sorts_of f.variables) (state_place inputs) before
+  pub now_known : VariablesAreRepresented f.scope.enumerations row known lines (sorts_of f.variables) (input_place inputs) now
+  pub now_both : VariablesAreRepresented f.scope.enumerations row both lines (sorts_of f.variables) (input_place inputs) now
+  pub before_both : VariablesAreRepresented f.scope.enumerations row both lines (sorts_of f.variables) (state_place inputs) before
 
 -- the constraints of the parts' lines hold exactly where those before do and the parts' formulas are true
 abbrev pub PartsAreConstrained : Type 0

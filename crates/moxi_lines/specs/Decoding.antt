@@ -14,7 +14,7 @@ use Rattle.moxi_terms.specs.Sorted.{AreSorts}
 use Rattle.moxi_terms.specs.Tree.{sorts_of}
 use Rattle.moxi_terms.specs.Value.{Values}
 use Rattle.moxi_lines.specs.Codes.{constant_count, datum_of}
-use Rattle.moxi_lines.specs.TermLaws.{AreNumbered, HaveCodes, VariablesStand}
+use Rattle.moxi_lines.specs.TermLaws.{AreNumbered, HaveCodes, VariablesAreRepresented}
 use Rattle.moxi_lines.specs.Lines.{input_place, state_place}
 use Rattle.moxi_lines.specs.Variables.{AreVariablesAt, IsInside}
 
@@ -23,7 +23,7 @@ abbrev pub decoded_datum : List Enumeration → Sort → BitVector → Datum
 decoded_datum es (Choice n) x = if nat_lt x.bits (constant_count es n) then datum.Constant n x.bits else datum.Constant n 0
 decoded_datum es s x = datum_of s x
 
--- the values of variables whose words stand at places
+-- the values of variables whose words are at places
 abbrev pub decoded : List Enumeration → List Variable → List BitVector → (ℕ → ℕ) → Values
 decoded es vs row place v = decoded_datum es (slice_index_or (sorts_of vs) v Truth) (word_at row (place v))
 
@@ -34,8 +34,8 @@ pub record PlacesInside (es : List Enumeration) (vs : List Variable) (row : List
 -- In a row that meets the lines of variables the words at the inputs, and those at the states, stand for values; where they are
 -- inside they are the words of these values.
 pub record Decodes (es : List Enumeration) (vs : List Variable) (row : List BitVector) (lines : List Line) (inputs : List ℕ) : Type 0 where
-  pub now : (known : Bool) → (known ≡ true → PlacesInside es vs row (input_place inputs)) → VariablesStand es row known lines (sorts_of vs) (input_place inputs) (decoded es vs row (input_place inputs))
-  pub before : (known : Bool) → (known ≡ true → PlacesInside es vs row (state_place inputs)) → VariablesStand es row known lines (sorts_of vs) (state_place inputs) (decoded es vs row (state_place inputs))
+  pub now : (known : Bool) → (known ≡ true → PlacesInside es vs row (input_place inputs)) → VariablesAreRepresented es row known lines (sorts_of vs) (input_place inputs) (decoded es vs row (input_place inputs))
+  pub before : (known : Bool) → (known ≡ true → PlacesInside es vs row (state_place inputs)) → VariablesAreRepresented es row known lines (sorts_of vs) (state_place inputs) (decoded es vs row (state_place inputs))
 
 abbrev pub WordsAreDecoded : Type 0
 WordsAreDecoded = (es : List Enumeration) → HaveCodes es → AllByRecursion (λ (e : Enumeration). 0 < length e.constants) es → (vs : List Variable) → AreSorts es (sorts_of vs)

@@ -18,7 +18,7 @@ use Rattle.moxi_scripts.specs.declared.script.Query.{Query}
 use Rattle.moxi_scripts.specs.Script.{PlainFormula, formula_at}
 use Rattle.moxi_flat.specs.FlatSystem.{PlainFlatSystem, PlainPart}
 use Rattle.moxi_lines.specs.Codes.{choice_width, constant_count, sort_bits}
-use Rattle.moxi_lines.specs.TermLines.{AllMade, Made, call_lines, chain_lines, folded_lines, place_in, with_binary, with_constant, with_term}
+use Rattle.moxi_lines.specs.TermLines.{AllBuilt, Built, call_lines, chain_lines, folded_lines, place_in, with_binary, with_constant, with_term}
 
 -- ---- symbols
 
@@ -57,17 +57,17 @@ first_place = 3
 -- ---- single lines
 
 -- an input or a state of this width
-abbrev pub with_free : List Line → LineOp → ℕ → List ℕ → Made
+abbrev pub with_free : List Line → LineOp → ℕ → List ℕ → Built
 with_free lines o width name = pushed (with_sort lines width).0 o (with_sort lines width).1 [] (symbol_of name)
 
 -- the init or the next of a state of this width
 abbrev pub with_given : List Line → LineOp → ℕ → ℕ → ℕ → List Line
 with_given lines o width state value = (pushed (with_sort lines width).0 o (with_sort lines width).1 (plain_arg state ∷ plain_arg value ∷ []) None).0
 
-abbrev pub with_constraint : Made → List Line
+abbrev pub with_constraint : Built → List Line
 with_constraint m = (pushed m.0 line.Constraint 0 (plain_arg m.1 ∷ []) None).0
 
-abbrev pub with_bad : List ℕ → Made → List Line
+abbrev pub with_bad : List ℕ → Built → List Line
 with_bad name m = (pushed m.0 line.Bad 0 (plain_arg m.1 ∷ []) (symbol_of name)).0
 
 -- ---- variables
@@ -80,17 +80,17 @@ with_code es (Choice n) lines p =
     if nat_eq count (2 ^ choice_width count) then lines else with_constraint (with_binary two.Ult m.0 p m.1)
 with_code es s lines p = lines
 
--- the state of a variable stands behind its input: in each frame but the first it has the input of the frame before
-abbrev pub with_state : List Enumeration → Variable → Made → Made
+-- the state of a variable is behind its input: in each frame but the first it has the input of the frame before
+abbrev pub with_state : List Enumeration → Variable → Built → Built
 with_state es v m =
     let s = with_free m.0 line.State (sort_bits es v.sort) (v.name ++ codes ".prev") in
     (with_code es v.sort (with_given s.0 line.Next (sort_bits es v.sort) s.1 m.1) m.1, m.1)
 
-abbrev pub with_variable : List Enumeration → List Line → Variable → Made
+abbrev pub with_variable : List Enumeration → List Line → Variable → Built
 with_variable es lines v = with_state es v (with_free lines line.Input (sort_bits es v.sort) v.name)
 
 -- with the places of the inputs
-abbrev pub with_variables : List Enumeration → AllMade → List Variable → AllMade
+abbrev pub with_variables : List Enumeration → AllBuilt → List Variable → AllBuilt
 with_variables es m [] = m
 with_variables es m (v ∷ vs) =
     let one = with_variable es m.0 v in with_variables es (one.0, m.1 ++ one.1 ∷ []) vs
@@ -105,12 +105,12 @@ abbrev pub state_place : List ℕ → ℕ → ℕ
 state_place inputs v = suc (place_in inputs v)
 
 -- the lines of a formula of one step
-abbrev pub with_formula : ScopeState → List ℕ → List Line → Tree → Made
+abbrev pub with_formula : ScopeState → List ℕ → List Line → Tree → Built
 with_formula s inputs lines t =
     with_term s.enumerations (call_lines s.enumerations s.functions (length s.functions)) (input_place inputs) (input_place inputs) [] lines t
 
 -- those of a formula between the step before and this one
-abbrev pub with_step : ScopeState → List ℕ → List Line → Tree → Made
+abbrev pub with_step : ScopeState → List ℕ → List Line → Tree → Built
 with_step s inputs lines t =
     with_term s.enumerations (call_lines s.enumerations s.functions (length s.functions)) (state_place inputs) (input_place inputs) [] lines t
 
@@ -142,17 +142,17 @@ with_parts s inputs lines (p ∷ ps) = with_parts s inputs (with_part s inputs l
 -- ---- queries
 
 -- a state of a truth value that begins with the constant at a place
-abbrev pub with_latch : List Line → List ℕ → ℕ → Made
+abbrev pub with_latch : List Line → List ℕ → ℕ → Built
 with_latch lines name value =
     let s = with_free lines line.State 1 name in (with_given s.0 line.Init 1 s.1 value, s.1)
 
-abbrev pub with_assumptions : PlainFlatSystem → List ℕ → AllMade → List ℕ → AllMade
+abbrev pub with_assumptions : PlainFlatSystem → List ℕ → AllBuilt → List ℕ → AllBuilt
 with_assumptions f inputs m [] = m
 with_assumptions f inputs m (a ∷ rest) =
     let n = with_formula f.scope inputs m.0 (formula_at f.assumptions a) in with_assumptions f inputs (n.0, m.1 ++ n.1 ∷ []) rest
 
 -- a current condition counts in frame 0
-abbrev pub with_currents : PlainFlatSystem → List ℕ → AllMade → List ℕ → AllMade
+abbrev pub with_currents : PlainFlatSystem → List ℕ → AllBuilt → List ℕ → AllBuilt
 with_currents f inputs m [] = m
 with_currents f inputs m (c ∷ rest) =
     let n = with_formula f.scope inputs m.0 (formula_at f.currents c) in
@@ -160,7 +160,7 @@ with_currents f inputs m (c ∷ rest) =
     with_currents f inputs (g.0, m.1 ++ g.1 ∷ []) rest
 
 -- The chain of a query's assumptions and current conditions: a state that begins as one, and is one while they have held.
-abbrev pub with_conditions : PlainFlatSystem → List ℕ → List Line → Query → Made
+abbrev pub with_conditions : PlainFlatSystem → List ℕ → List Line → Query → Built
 with_conditions f inputs lines q =
     let s = with_latch lines (q.name ++ codes ".ok") one_place in
     let parts = with_currents f inputs (with_assumptions f inputs (s.0, []) q.assumptions) q.currents in
@@ -188,18 +188,18 @@ with_reachables f inputs name m [] = m
 with_reachables f inputs name m (r ∷ rs) = with_reachables f inputs name (with_reachable f inputs name m r) rs
 
 -- each formula was met, and one or more of them are met now; `before` has the place of the conditions' chain, where there is one
-abbrev pub with_all_met : Reaching → List ℕ → Made
+abbrev pub with_all_met : Reaching → List ℕ → Built
 with_all_met m before =
     let all = chain_lines two.And m.lines (before ++ m.seen) in
     let some = chain_lines two.Or all.0 m.formulas in
     with_binary two.And some.0 all.1 some.1
 
-abbrev pub with_one_met : Made → List ℕ → Made
+abbrev pub with_one_met : Built → List ℕ → Built
 with_one_met m [] = m
 with_one_met m (p ∷ ps) = with_binary two.And m.0 p m.1
 
 -- the word of a query's bad line
-abbrev pub with_goal : PlainFlatSystem → List ℕ → Query → List ℕ → List Line → List ℕ → Made
+abbrev pub with_goal : PlainFlatSystem → List ℕ → Query → List ℕ → List Line → List ℕ → Built
 with_goal f inputs q before lines (r ∷ []) = with_one_met (with_formula f.scope inputs lines (formula_at f.reachables r)) before
 with_goal f inputs q before lines rs = with_all_met (with_reachables f inputs q.name (record { lines = lines; formulas = []; seen = [] }) rs) before
 
@@ -219,7 +219,7 @@ with_queries f inputs lines (q ∷ qs) = with_queries f inputs (with_query f inp
 -- ---- systems
 
 -- the head and the variables, with the places of the inputs
-abbrev pub variable_lines : PlainFlatSystem → AllMade
+abbrev pub variable_lines : PlainFlatSystem → AllBuilt
 variable_lines f = with_variables f.scope.enumerations (head_lines, []) f.variables
 
 abbrev pub lines_of : PlainFlatSystem → List Line

@@ -30,7 +30,7 @@ SystemsAreConstrained = (f : PlainFlatSystem) → HaveCodes f.scope.enumerations
     → (row : List BitVector) → Meets (lines_of f) row → (first : Bool) → word_at row first_place ≡ record { width = 1; bits = bit_of first } → WereInside f first row
     → ConstraintsHold (lines_of f) row ↔ IsAllowed f first row
 
--- What stands in the lines for the order of frames: `first` begins as one and is zero in all later frames, and each variable has
+-- What is in the lines for the order of frames: `first` begins as one and is zero in all later frames, and each variable has
 -- its input and its state.
 pub record IsFramed (f : PlainFlatSystem) (lines : List Line) (inputs : List ℕ) : Type 0 where
   pub first_init : state_value is_init lines first_place ≡ Some (plain_arg one_place)

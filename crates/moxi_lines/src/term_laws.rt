@@ -1,5 +1,5 @@
 // Laws about the words of values and about the lines of terms.
-ghost use Rattle.moxi_lines.specs.TermLaws.{ChoiceWidthsAreLeast, CodesAreWords, CodesComeBack, TermsGrowQuietly, TermsHaveTheirWords, WordsComeBack};
+ghost use Rattle.moxi_lines.specs.TermLaws.{ChoiceWidthsAreLeast, CodesAreWords, CodesRoundTrip, TermsGrowByShared, TermsHaveTheirWords, WordsRoundTrip};
 
 /// Proves that the width of an enumeration's words is the least one, at least 1, that can number all its constants.
 pub fn choice_widths_are_least()
@@ -13,17 +13,17 @@ pub fn codes_are_words()
 
 /// Proves that decoding the word of a value of a sort returns the value.
 pub fn codes_come_back()
-    ensures { CodesComeBack }
+    ensures { CodesRoundTrip }
 {}
 
 /// Proves that encoding the value of a word of a sort's width returns the word.
 pub fn words_come_back()
-    ensures { WordsComeBack }
+    ensures { WordsRoundTrip }
 {}
 
 /// Proves that a term's lines are only sorts, constants and operators.
-pub fn terms_grow_quietly()
-    ensures { TermsGrowQuietly }
+pub fn terms_grow_by_shared()
+    ensures { TermsGrowByShared }
 {}
 
 /// Proves that a term's line has the word of the term's value, in each row of words that satisfies the lines.

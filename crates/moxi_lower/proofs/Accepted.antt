@@ -21,7 +21,7 @@ use Rattle.moxi_terms.specs.Value.{at}
 use Rattle.moxi_terms.proofs.ValueLaws.{fit_at}
 use Rattle.moxi_scripts.specs.declared.script.Query.{Query}
 use Rattle.moxi_scripts.specs.Behaviour.{Suits}
-use Rattle.moxi_scripts.specs.Whole.{IsWholeQuery}
+use Rattle.moxi_scripts.specs.Valid.{IsValidQuery}
 use Rattle.moxi_scripts.specs.laws.WholeParts.{all_at, get_there}
 use Rattle.moxi_flat.specs.FlatMeeting.{MeetsFlat}
 use Rattle.moxi_flat.specs.FlatSystem.{PlainFlatSystem}
@@ -137,7 +137,7 @@ module _ (f : PlainFlatSystem) (lines : List Line) (laid : IsLaidOut f lines) wh
       let suits = λ (i : ℕ) (l : i ≤ k). steps_suit envs fit i (omega (arith, l, sized)) in
       let reads = λ (i : ℕ) (l : i ≤ k). frames_read false [] envs rows a i (omega (arith, l, sized)) in
       let agree = λ (i : ℕ) (l : i ≤ k). read_values f lines laid (row_at rows i) (trace_of envs i) (suits i l) (reads i l) in
-      let whole = all_at (IsWholeQuery (length f.assumptions) (length f.currents) (length f.reachables)) f.queries j q laid.sorted.queries g in
+      let whole = all_at (IsValidQuery (length f.assumptions) (length f.currents) (length f.reachables)) f.queries j q laid.sorted.queries g in
       let same : MeetsFlat f q k (decoded_trace f lines rows) =
       meets_same f laid.sorted k (trace_of envs) (decoded_trace f lines rows) (λ i l. agree_back (sorts_of f.variables) (decoded_trace f lines rows i) (trace_of envs i) (agree i l)) q whole m in
       let x = meet_frames f lines laid k (row_at rows) path j q g (λ i l. read_inside f lines laid (row_at rows i) (trace_of envs i) (suits i l) (reads i l)) same in

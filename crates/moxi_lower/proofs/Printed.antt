@@ -1,4 +1,4 @@
--- The printed text of the witness of a trace is read as the same witness: its statements stand in rising order.
+-- The printed text of the witness of a trace is read as the same witness: its statements are in rising order.
 use Rattle.std.proofs.Common.{◌≡◌, ℕ, zero, suc, ◌<◌, ◌≤◌, List, [], ◌∷◌, ◌++◌, length, map, Some, refl, sym, ap, ◌∙◌, subst, arith}
 use Rattle.btor_tree.specs.declared.lines.Line.{Line}
 use Rattle.btor_tree.specs.Fits.{IsWellFormed, is_input}

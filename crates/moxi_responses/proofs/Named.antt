@@ -10,7 +10,7 @@ use Rattle.moxi_scripts.specs.Invariant.{IsSpelled}
 use Rattle.moxi_scripts.specs.Script.{PlainScript, plain_system, system_at}
 use Rattle.moxi_scripts.specs.ScriptView.{plain_script}
 use Rattle.moxi_scripts.specs.Spelling.{SpellsScript}
-use Rattle.moxi_scripts.specs.Whole.{IsWhole}
+use Rattle.moxi_scripts.specs.Valid.{IsValid}
 use Rattle.moxi_scripts.proofs.Forms.{items_step}
 use Rattle.moxi_instantiate.proofs.Measured.{lt_held}
 
@@ -33,7 +33,7 @@ system_name (x ∷ xs) zero s l e = ap (λ (y : System). y.name) e
 system_name (x ∷ xs) (suc i) s l e = system_name xs i s (omega arith) e
 
 -- the checked system of a script is there
-pub checked_there : (script : Script) → ((ts : Trees) (end : Place) (s : PlainScript) → SpellsScript ts end s → IsWhole s) → script.check.system < length script.systems
+pub checked_there : (script : Script) → ((ts : Trees) (end : Place) (s : PlainScript) → SpellsScript ts end s → IsValid s) → script.check.system < length script.systems
 checked_there script whole =
     let s = plain_script script in
     subst (λ n. script.check.system < n) (plain_length script.systems)

@@ -18,7 +18,7 @@ use Rattle.moxi_scripts.specs.Invariant.{IsSpelled}
 use Rattle.moxi_scripts.specs.Script.{PlainCheck, PlainScript}
 use Rattle.moxi_scripts.specs.ScriptView.{plain_script}
 use Rattle.moxi_scripts.specs.Spelling.{SpellsScript}
-use Rattle.moxi_scripts.specs.Whole.{IsWhole, query_names}
+use Rattle.moxi_scripts.specs.Valid.{IsValid, query_names}
 use Rattle.moxi_script_print.specs.NamesOfScripts.{HasSpellableNames}
 use Rattle.moxi_flat.specs.declared.limits.TheConstants.{LARGEST}
 use Rattle.moxi_flat.specs.FlatSizes.{part_size}
@@ -53,7 +53,7 @@ few_queries f h =
     let size = query_size (call_sizes f.scope) (check_of f) in
     bounded (length f.variables) (sum_by (part_size (call_sizes f.scope)) f.parts) (sum_by size f.queries) _ (length f.queries) h (counted size 0 f.queries (query_counts (call_sizes f.scope) (check_of f)))
 
-module _ (script : Script) (whole : (ts : Trees) (end : Place) (s : PlainScript) → SpellsScript ts end s → IsWhole s)
+module _ (script : Script) (whole : (ts : Trees) (end : Place) (s : PlainScript) → SpellsScript ts end s → IsValid s)
     (differ : are_fresh [] (variable_names (flat_of (plain_script script)).variables) ≡ true) where
   pub own_names : length (plain_script script).check.queries ≤ 2 ^ 32 → HasOwnNames (declared_of (plain_script script))
   own_names few =

@@ -22,7 +22,7 @@ use Rattle.moxi_term_print.specs.laws.StandingPlaces.{fresh_place}
 use Rattle.moxi_scripts.specs.declared.script.Query.{Query}
 use Rattle.moxi_scripts.specs.Script.{PlainScript}
 use Rattle.moxi_script_print.specs.NamesOfScripts.{HasSpellableNames}
-use Rattle.moxi_scripts.specs.Whole.{AreNames, IsWhole, check_variables, is_fixed_term, query_names}
+use Rattle.moxi_scripts.specs.Valid.{AreNames, IsValid, check_variables, is_fixed_term, query_names}
 use Rattle.moxi_scripts.specs.laws.WholeNames.{fresh_split, or_parts}
 use Rattle.moxi_scripts.specs.laws.WholeParts.{all_append, all_at, all_map, all_parts, get_below, get_map, get_there, index_get, not_false}
 use Rattle.moxi_flat.specs.FlatSystem.{flat_of, locals_upto}
@@ -73,7 +73,7 @@ named_behind : (cs names : List (List ℕ)) (k : ℕ) → slice_get (cs ++ names
 named_behind [] names k = ap (slice_get names) (let e : 0 + k ≡ k = omega arith in e)
 named_behind (c ∷ cs) names k = ap (slice_get ((c ∷ cs) ++ names)) (let e : length (c ∷ cs) + k ≡ suc (length cs + k) = omega arith in e) ∙ named_behind cs names k
 
--- where the constant stands among all, the enumerations counted from m
+-- where the constant is among all, the enumerations counted from m
 abbrev HasPlace : ℕ → List Enumeration → ℕ → ℕ → Type 0
 HasPlace m es n i = (k : ℕ) × (slice_get (constant_numbers m es) k ≡ Some (m + n, i)) × (slice_get (all_constants es) k ≡ Some (constant_name es n i))
 
@@ -137,7 +137,7 @@ flat_barred s h =
     all_append P (check_variables c) (locals_upto s.systems (length s.systems) [] c.system) (all_append P c.inputs (c.outputs ++ c.locals) (variables_barred c.inputs h.check.inputs) locals)
     (instances_barred s.systems h.systems (length s.systems) [] c.system refl)
 
-pub can_be_read_back : (s : PlainScript) → IsWhole s → HasSpellableNames s → are_fresh [] (variable_names (flat_of s).variables) ≡ true → CanBeReadBack (declared_of s)
+pub can_be_read_back : (s : PlainScript) → IsValid s → HasSpellableNames s → are_fresh [] (variable_names (flat_of s).variables) ≡ true → CanBeReadBack (declared_of s)
 can_be_read_back s whole names differ =
     record {
       system = name_barred s.systems s.check.system names.systems;

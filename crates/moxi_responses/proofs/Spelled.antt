@@ -1,10 +1,10 @@
--- Names that can be spelled can stand in bars, those of the locals of instances too.
+-- Names that can be spelled can appear in bars, those of the locals of instances too.
 use Rattle.std.proofs.Common.{◌≡◌, ℕ, zero, suc, Bool, true, false, not, cond, ◌&&◌, ◌||◌, List, [], ◌∷◌, ◌++◌, refl, ap, ◌∙◌, subst}
 use Rattle.std.specs.Prelude.{◌==◌, IsTrue, codes}
 use Rattle.std.specs.List.{AllByRecursion, list_all}
 use Rattle.std.proofs.lemmas.Bool.{and_parts, eqb-true}
 use Rattle.moxi_sexpr.specs.declared.scan.Spelling.TheVariants as how
-use Rattle.moxi_sexpr.specs.Atoms.{is_simple, may_stand, starts_simple}
+use Rattle.moxi_sexpr.specs.Atoms.{is_simple, may_appear, starts_simple}
 use Rattle.moxi_sexpr.specs.Bytes.{is_symbol_byte, is_barred_byte}
 use Rattle.moxi_sexpr.specs.Printing.{is_among, reserved_words}
 use Rattle.moxi_terms.specs.declared.term.Variable.{Variable}
@@ -36,7 +36,7 @@ all_barred (b ∷ bs) h =
 pub spelled_barred : (name : List ℕ) → IsSpellable name → CanBeSpelled name
 spelled_barred name h = by (is_simple name && not (is_among name reserved_words)) h
   where
-    by : (t : Bool) → IsTrue (may_stand (cond t (how.Bare false) (how.Barred false)) name) → CanBeSpelled name
+    by : (t : Bool) → IsTrue (may_appear (cond t (how.Bare false) (how.Barred false)) name) → CanBeSpelled name
     by true g = all_barred name (and_parts (starts_simple name) (list_all is_symbol_byte name) g).1
     by false g = g
 

@@ -2,7 +2,7 @@
 use Rattle.std.specs.Prelude.{◌≡◌, ◌≤◌, ℕ, true, List, length}
 use Rattle.moxi_terms.specs.declared.data.Datum.{Datum}
 use Rattle.moxi_scripts.specs.Script.{PlainScript, system_at}
-use Rattle.moxi_scripts.specs.Whole.{query_names}
+use Rattle.moxi_scripts.specs.Valid.{query_names}
 use Rattle.moxi_flat.specs.FlatSystem.{flat_of}
 use Rattle.moxi_trace.specs.Responses.{ReadsResponse}
 use Rattle.moxi_trace.specs.Traces.{Declared, is_within, most_bytes}

@@ -3,14 +3,14 @@ ghost use Rattle.std.specs.Prelude.{◌≡◌, IfOk, map};
 ghost use Rattle.moxi_flat.specs.FlatSystem.{flat_of};
 ghost use Rattle.moxi_scripts.specs.Script.{system_at};
 ghost use Rattle.moxi_scripts.specs.ScriptView.{plain_script};
-ghost use Rattle.moxi_scripts.specs.Whole.{query_names};
+ghost use Rattle.moxi_scripts.specs.Valid.{query_names};
 ghost use Rattle.moxi_responses.specs.Declaring.{declared_of};
 ghost use Rattle.moxi_trace.specs.ReadBack.{CanBeReadBack};
 ghost use Rattle.moxi_trace.specs.Traces.{HasOwnNames};
 
 use moxi_instantiate::FlatSystem;
 use moxi_script_print::printable_forms_give_spellable_names;
-use moxi_scripts::{Queries, Script, spelled_scripts_are_whole};
+use moxi_scripts::{Queries, Script, spelled_scripts_are_valid};
 use moxi_trace::Declarations;
 use std::alloc::Global;
 use text_core::{Name, Names, NoMemory};
@@ -32,7 +32,7 @@ pub(crate) fn names_of(alloc: Global, queries: &Queries) -> Result<Names, NoMemo
 pub(crate) fn checked_name(script: &Script) -> &Name
     ensures { result.now ≡ (system_at (plain_script script.now).systems script.now.check.system).name }
 {
-    spelled_scripts_are_whole();
+    spelled_scripts_are_valid();
     &script.systems.at(script.check.system as usize).name
 }
 
@@ -60,7 +60,7 @@ pub(crate) fn names_are_own(script: &Script, system: &FlatSystem<'_>)
     ensures own { HasOwnNames (declared_of (plain_script script.now)) }
     ensures again { ∥ CanBeReadBack (declared_of (plain_script script.now)) ∥₁ }
 {
-    spelled_scripts_are_whole();
+    spelled_scripts_are_valid();
     printable_forms_give_spellable_names();
     system.is_within_limits();
 }

@@ -7,7 +7,7 @@ ghost use Rattle.moxi_trace.specs.ReadBack.{CanBeReadBack};
 ghost use Rattle.moxi_responses.specs.Declaring.{declared_of};
 
 use moxi_script_print::printable_forms_give_spellable_names;
-use moxi_scripts::spelled_scripts_are_whole;
+use moxi_scripts::spelled_scripts_are_valid;
 
 /// Proves that responses to a script's check can be printed and read back.
 ///
@@ -15,6 +15,6 @@ use moxi_scripts::spelled_scripts_are_whole;
 pub fn responses_are_read_back()
     ensures { (s : PlainScript) → IsSpelled s → flat_refusal s ≡ None → CanBeReadBack (declared_of s) }
 {
-    spelled_scripts_are_whole();
+    spelled_scripts_are_valid();
     printable_forms_give_spellable_names();
 }

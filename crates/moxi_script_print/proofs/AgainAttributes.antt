@@ -76,7 +76,7 @@ tail_more command name k p t ts e once l r = record {
       ap (λ o. text_entries l command (key_turn o) (tree t ts)) e ∙ ap (λ xs. xs ++ text_entries l command AtKeyword ts) (no_list l k once) ∙ r.lists l;
 }
 
--- the three lists, and what stands behind them
+-- the three lists, and what is behind them
 pub record HasLists (s : ScopeState) (inputs outputs locals : List Variable) (rest : Showns) (ts : Trees) : Type 0 where
   pub input_place : Place
   pub input : Tree
@@ -115,7 +115,7 @@ has_lists s inputs outputs locals rest ts h =
       show_more = c.show_more;
     }
 
--- the three formulas of a system, and what stands behind them
+-- the three formulas of a system, and what is behind them
 pub record HasFormulas (s : ScopeState) (vars : List (List ℕ)) (init trans inv : terms.Tree) (rest : Showns) (ts : Trees) : Type 0 where
   pub init_place : Place
   pub init_form : Tree

@@ -26,7 +26,7 @@ use Rattle.moxi_scripts.specs.QueryReading as query
 use Rattle.moxi_scripts.specs.Script.{PlainCheck, PlainFormula, PlainSystem}
 use Rattle.moxi_scripts.specs.Shapes.{HeadedForms}
 use Rattle.moxi_scripts.specs.Systems.{locals_of}
-use Rattle.moxi_scripts.specs.Whole.{IsWholeCheck, IsWholeQuery, check_variables, formula_names}
+use Rattle.moxi_scripts.specs.Valid.{IsValidCheck, IsValidQuery, check_variables, formula_names}
 use Rattle.moxi_script_print.proofs.AgainAttributes.{IsTail, check_shape, has_lists, list_forms}
 use Rattle.moxi_script_print.proofs.AgainLabels.{all_labels_read, made_labels}
 use Rattle.moxi_script_print.proofs.AgainParts.{ReadsBack, both_nil}
@@ -49,15 +49,15 @@ record IsReadCheck (s : ScopeState) (names : List (List ℕ)) (c : PlainCheck) (
   pub shape : shape_holds Check ts ≡ true
   pub pass : checks.content_failures s ts ≡ []
 
-queries_there : (c : PlainCheck) → AllByRecursion (IsWholeQuery (length c.assumptions) (length c.currents) (length c.reachables)) c.queries
-    → AllByRecursion (IsWholeQuery (length (formula_names c.assumptions)) (length (formula_names c.currents)) (length (formula_names c.reachables))) c.queries
+queries_there : (c : PlainCheck) → AllByRecursion (IsValidQuery (length c.assumptions) (length c.currents) (length c.reachables)) c.queries
+    → AllByRecursion (IsValidQuery (length (formula_names c.assumptions)) (length (formula_names c.currents)) (length (formula_names c.reachables))) c.queries
 queries_there c h =
     let name = λ (f : PlainFormula). f.name in
-    subst (λ n. AllByRecursion (IsWholeQuery n (length (formula_names c.currents)) (length (formula_names c.reachables))) c.queries) (sym (length-map c.assumptions name))
-    (subst (λ n. AllByRecursion (IsWholeQuery (length c.assumptions) n (length (formula_names c.reachables))) c.queries) (sym (length-map c.currents name))
-    (subst (λ n. AllByRecursion (IsWholeQuery (length c.assumptions) (length c.currents) n) c.queries) (sym (length-map c.reachables name)) h))
+    subst (λ n. AllByRecursion (IsValidQuery n (length (formula_names c.currents)) (length (formula_names c.reachables))) c.queries) (sym (length-map c.assumptions name))
+    (subst (λ n. AllByRecursion (IsValidQuery (length c.assumptions) n (length (formula_names c.reachables))) c.queries) (sym (length-map c.currents name))
+    (subst (λ n. AllByRecursion (IsValidQuery (length c.assumptions) (length c.currents) n) c.queries) (sym (length-map c.reachables name)) h))
 
--- what stands behind the lists
+-- what is behind the lists
 record AreReadConditions (s : ScopeState) (locals : List Local) (c : PlainCheck) (ts : form.Trees) : Type 0 where
   pub labels : labels_after s locals no_labels AtKeyword ts ≡ made_labels c.assumptions c.currents c.reachables
   pub labels_pass : labels_failures s locals no_labels AtKeyword ts ≡ []
@@ -65,7 +65,7 @@ record AreReadConditions (s : ScopeState) (locals : List Local) (c : PlainCheck)
   pub queries_pass : query.all_queries_failures (made_labels c.assumptions c.currents c.reachables) [] AtKeyword ts ≡ []
   pub tail : IsTail Check ts
 
-conditions_read : (s : ScopeState) (back : ReadsBack s) (locals : List Local) (ss : List PlainSystem) (c : PlainCheck) (ts : form.Trees) → locals ≡ answer.locals_of (check_variables c) → IsWholeCheck s ss c
+conditions_read : (s : ScopeState) (back : ReadsBack s) (locals : List Local) (ss : List PlainSystem) (c : PlainCheck) (ts : form.Trees) → locals ≡ answer.locals_of (check_variables c) → IsValidCheck s ss c
     → ShowEach ts (shown_conditions s (variable_names (check_variables c)) c) → AreReadConditions s locals c ts
 unfolding shown_conditions
 conditions_read s back locals ss c ts same w h =
@@ -82,7 +82,7 @@ conditions_read s back locals ss c ts same w h =
       tail = l.tail q.tail;
     }
 
-content_read : (s : ScopeState) (names : List (List ℕ)) (ss : List PlainSystem) (c : PlainCheck) (ts : form.Trees) → ReadsBack s → IsWholeCheck s ss c
+content_read : (s : ScopeState) (names : List (List ℕ)) (ss : List PlainSystem) (c : PlainCheck) (ts : form.Trees) → ReadsBack s → IsValidCheck s ss c
     → ShowEach ts (joined (shown_lists s c.inputs c.outputs c.locals) (shown_conditions s (variable_names (check_variables c)) c)) → IsReadCheck s names c ts
 content_read s names ss c ts back w h =
     let vs = check_variables c in
@@ -147,7 +147,7 @@ check_passes : (r : Reading) (p q n : Place) (name : List ℕ) (ts : form.Trees)
 check_passes r p q n name ts first shape pass =
     ap (λ b. cond b (checks.content_failures r.scope ts) (refusal 12 p ∷ []) ++ fails_if r.checked 13 p) shape ∙ ap (λ xs. xs ++ fails_if r.checked 13 p) pass ∙ ap (λ b. fails_if b 13 p) first
 
-pub check_read : (names : List (List ℕ)) (ss : List PlainSystem) (c : PlainCheck) (r : Reading) (f : form.Tree) → ReadsBack r.scope → IsWholeCheck r.scope ss c → r.checked ≡ false → Shows f (shown_check r.scope names c)
+pub check_read : (names : List (List ℕ)) (ss : List PlainSystem) (c : PlainCheck) (r : Reading) (f : form.Tree) → ReadsBack r.scope → IsValidCheck r.scope ss c → r.checked ≡ false → Shows f (shown_check r.scope names c)
     → IsNextCheck names c r f
 check_read names ss c r f back w first h =
     let name = name_at names c.system in

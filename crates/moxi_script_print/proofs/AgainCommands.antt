@@ -14,7 +14,7 @@ use Rattle.moxi_terms.specs.Tree.{PlainFunction}
 use Rattle.moxi_terms.specs.View.{ScopeState}
 use Rattle.moxi_term_print.specs.Declarations.{shown_function, shown_named_sort}
 use Rattle.moxi_term_print.specs.Shown.{word, group, Showns, no_showns, shown, joined, Shows, ShowEach}
-use Rattle.moxi_term_print.specs.Standing.{Stands}
+use Rattle.moxi_term_print.specs.WellScoped.{IsWellScoped}
 use Rattle.moxi_term_print.specs.Terms.{shown_sort, shown_term, shown_variables, symbol, variable_names}
 use Rattle.moxi_term_print.specs.laws.StandingShapes as shape
 use Rattle.moxi_scripts.specs.declared.parts.Command.TheVariants.{System}
@@ -24,7 +24,7 @@ use Rattle.moxi_scripts.specs.Lists.{all_entries, lists_in}
 use Rattle.moxi_script_print.specs.Printing.{shown_enumerations, shown_functions, shown_logic, shown_sorts, shown_systems}
 use Rattle.moxi_scripts.specs.Script.{PlainSystem, variables_in}
 use Rattle.moxi_scripts.specs.Systems.{SystemReading, content_of}
-use Rattle.moxi_scripts.specs.Whole.{IsWholeFunction, IsWholeScope, IsWholeSystem, before, is_fixed_sort, is_fixed_term, over, system_names}
+use Rattle.moxi_scripts.specs.Valid.{IsValidFunction, IsValidScope, IsValidSystem, before, is_fixed_sort, is_fixed_term, over, system_names}
 use Rattle.moxi_script_print.proofs.AgainDeclarations.{IsNewEnumeration, IsNewFunction, Reads, enumeration_read, function_read, sort_definition_read, sort_new}
 use Rattle.moxi_script_print.proofs.AgainEntries.{agree_all}
 use Rattle.moxi_script_print.proofs.AgainParts.{AllReadBack, ReadsBack, SortsRead, SortsStand, TermsRead, all_both, some_if}
@@ -191,7 +191,7 @@ record GoFunctions (logic : Option (List ℕ)) (u : ScopeState) (there fs : List
   pub goes : Goes (reading_functions logic u there ds) (reading_functions logic u (there ++ fs) variables) rest ts
 
 -- a function that is declared behind those that are there
-function_new : (u : ScopeState) (there : List PlainFunction) (f : PlainFunction) (fs : List PlainFunction) → u.functions ≡ there ++ f ∷ fs → IsWholeFunction u (length there) f → IsSort u.enumerations f.result
+function_new : (u : ScopeState) (there : List PlainFunction) (f : PlainFunction) (fs : List PlainFunction) → u.functions ≡ there ++ f ∷ fs → IsValidFunction u (length there) f → IsSort u.enumerations f.result
     → are_fresh (term_names u there) (called (f ∷ fs)) ≡ true → is_fixed_term f.name ≡ false → IsNewFunction (with_functions u there) (term_names u there) f
 function_new u there f fs all w i d free =
     let p = fresh_first (term_names u there) f.name (called fs) d in
@@ -202,12 +202,12 @@ function_new u there f fs all w i d free =
       parameters = w.parameters.sorts;
       differ = w.parameters.names.differ;
       result = i;
-      body = subst (λ gs. Stands (over (with_functions u gs) f.parameters Refused) [] f.body f.result) (ap (take (length there)) all ∙ take_whole there (f ∷ fs)) w.body;
+      body = subst (λ gs. IsWellScoped (over (with_functions u gs) f.parameters Refused) [] f.body f.result) (ap (take (length there)) all ∙ take_whole there (f ∷ fs)) w.body;
     }
 
 -- it is shown as in the scope before it
 function_shown : (u : ScopeState) (there : List PlainFunction) (f : PlainFunction) (fs : List PlainFunction) → u.functions ≡ there ++ f ∷ fs
-    → Stands (over (with_functions u there) f.parameters Refused) [] f.body f.result → shown_function u f ≡ shown_function (with_functions u there) f
+    → IsWellScoped (over (with_functions u there) f.parameters Refused) [] f.body f.result → shown_function u f ≡ shown_function (with_functions u there) f
 function_shown u there f fs all stands =
     let s = with_functions u there in
     let names = variable_names f.parameters in
@@ -218,7 +218,7 @@ function_shown u there f fs all stands =
     ∙ ap (λ x. group (shown (word (codes "define-fun")) (shown (symbol f.name) (shown (group (shown_variables s f.parameters)) (shown (shown_sort s f.result) (shown x no_showns))))))
     (term_shown (over s f.parameters Refused) u refl there_too names [] [] f.body f.result stands)
 
-functions_go : (logic : Option (List ℕ)) (u : ScopeState) (there fs : List PlainFunction) (ds : List Declared) (rest : Showns) (ts : Trees) → IsWholeScope u → AllReadBack u.enumerations → u.functions ≡ there ++ fs
+functions_go : (logic : Option (List ℕ)) (u : ScopeState) (there fs : List PlainFunction) (ds : List Declared) (rest : Showns) (ts : Trees) → IsValidScope u → AllReadBack u.enumerations → u.functions ≡ there ++ fs
     → are_fresh (term_names u there) (called fs) ≡ true → AllByRecursion (λ (name : List ℕ). is_fixed_term name ≡ false) (called fs) → AreUntaken u ds → ShowEach ts (joined (shown_functions u fs) rest)
     → GoFunctions logic u there fs ds rest ts
 functions_go logic u there [] ds rest ts w back all d free n h = record {
@@ -270,7 +270,7 @@ record GoSystems (logic : Option (List ℕ)) (u : ScopeState) (terms names : Lis
   pub goes : Goes (reading_at logic u terms (system_names there) ds rs) (reading_at logic u terms (system_names (there ++ xs)) variables systems) rest ts
 
 systems_go : (logic : Option (List ℕ)) (u : ScopeState) (terms names : List (List ℕ)) (all there xs : List PlainSystem) (ds : List Declared) (rs : List SystemReading) (rest : Showns) (ts : Trees) → ReadsBack u
-    → AllByRecursion (IsWholeSystem u all) xs → are_fresh (system_names there) (system_names xs) ≡ true → AreUntaken u ds → AgreeSystems names all there rs → ShowEach ts (joined (shown_systems u names xs) rest)
+    → AllByRecursion (IsValidSystem u all) xs → are_fresh (system_names there) (system_names xs) ≡ true → AreUntaken u ds → AgreeSystems names all there rs → ShowEach ts (joined (shown_systems u names xs) rest)
     → GoSystems logic u terms names all there xs ds rs rest ts
 systems_go logic u terms names all there [] ds rs rest ts back w d n a h =
     let r = reading_at logic u terms (system_names there) ds rs in
@@ -314,7 +314,7 @@ no_bool : (names : List (List ℕ)) → AllByRecursion (λ (name : List ℕ). is
 no_bool [] a = refl
 no_bool (name ∷ names) a = or_both (bytes_eq (codes "Bool") name) _ (other_way name (codes "Bool") (or_parts (bytes_eq name (codes "Bool")) (bytes_eq name (codes "BitVec")) a.0).0) (no_bool names a.1)
 
-pub all_back : (terms : TermsRead) (sorts : SortsRead) (stand : SortsStand) (u : ScopeState) → IsWholeScope u → AllReadBack u.enumerations
+pub all_back : (terms : TermsRead) (sorts : SortsRead) (stand : SortsStand) (u : ScopeState) → IsValidScope u → AllReadBack u.enumerations
 all_back terms sorts stand u w s e =
     let f = fresh_split [] (enumeration_names u) (sort_names u) w.sorts.differ in
     let o = all_parts (λ (name : List ℕ). is_fixed_sort name ≡ false) (enumeration_names u) (sort_names u) w.sorts.free in
@@ -331,7 +331,7 @@ pub record IsDeclared (logic : Option (List ℕ)) (u : ScopeState) (rest : Shown
   pub untaken : AreUntaken u variables
   pub goes : Goes nothing_read (reading_at logic u (term_names u u.functions) [] variables []) rest ts
 
-pub declarations_go : (logic : Option (List ℕ)) (u : ScopeState) (rest : Showns) (ts : Trees) → IsWholeScope u → AllReadBack u.enumerations
+pub declarations_go : (logic : Option (List ℕ)) (u : ScopeState) (rest : Showns) (ts : Trees) → IsValidScope u → AllReadBack u.enumerations
     → ShowEach ts (joined (shown_logic logic) (joined (shown_enumerations u.enumerations) (joined (shown_sorts u u.sorts) (joined (shown_functions u u.functions) rest)))) → IsDeclared logic u rest ts
 declarations_go logic u rest ts w back h =
     let functions = joined (shown_functions u u.functions) rest in
@@ -365,7 +365,7 @@ pub record AreDeclaredSystems (logic : Option (List ℕ)) (u : ScopeState) (ss :
   pub agree : AgreeSystems (system_names ss) ss ss systems
   pub goes : Goes nothing_read (reading_at logic u (term_names u u.functions) (system_names ss) variables systems) rest ts
 
-pub commands_go : (logic : Option (List ℕ)) (u : ScopeState) (ss : List PlainSystem) (rest : Showns) (ts : Trees) → IsWholeScope u → AllReadBack u.enumerations → AllByRecursion (IsWholeSystem u ss) ss → are_fresh [] (system_names ss) ≡ true
+pub commands_go : (logic : Option (List ℕ)) (u : ScopeState) (ss : List PlainSystem) (rest : Showns) (ts : Trees) → IsValidScope u → AllReadBack u.enumerations → AllByRecursion (IsValidSystem u ss) ss → are_fresh [] (system_names ss) ≡ true
     → ShowEach ts (joined (shown_logic logic) (joined (shown_enumerations u.enumerations) (joined (shown_sorts u u.sorts) (joined (shown_functions u u.functions) (joined (shown_systems u (system_names ss) ss) rest)))))
     → AreDeclaredSystems logic u ss rest ts
 commands_go logic u ss rest ts w back ws d h =

@@ -1,4 +1,4 @@
--- No subsystem contains its system in a whole script that is shown and read again.
+-- No subsystem contains its system in a valid script that is shown and read again.
 use Rattle.std.proofs.Common.{◌≡◌, ℕ, suc, ◌+◌, ◌<◌, nat_lt, true, cond, List, [], ◌∷◌, ◌++◌, length, refl, ap, ◌∙◌, arith}
 use Rattle.std.proofs.lemmas.Bool.Decides.{nat_tests}
 use Rattle.name_maps.specs.Names.{are_fresh, place_of}
@@ -8,7 +8,7 @@ use Rattle.moxi_scripts.specs.Cycles as cycles
 use Rattle.moxi_scripts.specs.Cycles.{nodes_from}
 use Rattle.moxi_scripts.specs.Script.{PlainSystem}
 use Rattle.moxi_scripts.specs.Systems.{SystemReading}
-use Rattle.moxi_scripts.specs.Whole.{NoneContainsItself, all_subsystem_rows, containing_rows, count_subsystems, subsystem_graph, subsystem_rows, system_names}
+use Rattle.moxi_scripts.specs.Valid.{NoneContainsItself, all_subsystem_rows, containing_rows, count_subsystems, subsystem_graph, subsystem_rows, system_names}
 use Rattle.moxi_script_print.proofs.AgainCommands.{AgreeSystems}
 use Rattle.moxi_script_print.proofs.AgainLinks.{system_place}
 use Rattle.moxi_script_print.proofs.AgainUses.{AgreeUses}

@@ -23,7 +23,7 @@ use Rattle.moxi_terms.specs.Tree.{PlainFunction, sorts_of}
 use Rattle.moxi_terms.specs.View.{ScopeState}
 use Rattle.moxi_term_print.specs.Declarations.{shown_enumeration, shown_function, shown_named_sort, shown_symbols}
 use Rattle.moxi_term_print.specs.Shown.{group, no_showns, shown, Shows, ShowEach}
-use Rattle.moxi_term_print.specs.Standing.{Stands}
+use Rattle.moxi_term_print.specs.WellScoped.{IsWellScoped}
 use Rattle.moxi_term_print.specs.StandingReads as standing
 use Rattle.moxi_term_print.specs.Terms.{shown_sort, shown_term, shown_variables, variable_names}
 use Rattle.moxi_term_print.specs.laws.StandingShapes as shape
@@ -34,7 +34,7 @@ use Rattle.moxi_scripts.specs.Declarations as declarations
 use Rattle.moxi_scripts.specs.Declarations.{FunctionForms, are_symbols, constants_failures, is_nil, is_taken, symbols_in, with_constants, with_term_name}
 use Rattle.moxi_scripts.specs.Entries.{entries_of, known_sort, names_with, sort_failures}
 use Rattle.moxi_scripts.specs.Shapes.{HeadedForms}
-use Rattle.moxi_scripts.specs.Whole.{is_fixed_sort, over}
+use Rattle.moxi_scripts.specs.Valid.{is_fixed_sort, over}
 use Rattle.moxi_script_print.proofs.AgainEntries.{Agree, agree_differ, agree_locals, agree_variables, entries_read}
 use Rattle.moxi_script_print.specs.laws.VariableNames.{names_of_locals}
 use Rattle.moxi_script_print.proofs.AgainParts.{ReadsBack, both_nil, some_if}
@@ -186,7 +186,7 @@ pub record IsNewFunction (s : ScopeState) (names : List (List ℕ)) (f : PlainFu
   pub parameters : AreSorts s.enumerations (sorts_of f.parameters)
   pub differ : are_fresh [] (variable_names f.parameters) ≡ true
   pub result : IsSort s.enumerations f.result
-  pub body : Stands (over s f.parameters Refused) [] f.body f.result
+  pub body : IsWellScoped (over s f.parameters Refused) [] f.body f.result
 
 abbrev pub with_function_read : Reading → PlainFunction → List Declared → Reading
 with_function_read r f ds = record r { scope = with_function r.scope f; term_names = r.term_names ++ f.name ∷ []; variables = r.variables ++ ds }

@@ -11,11 +11,11 @@ use Rattle.moxi_term_reading.specs.Reading.{Reading}
 use Rattle.moxi_terms.specs.Tree.{Tree}
 use Rattle.moxi_terms.specs.View.{ScopeState}
 use Rattle.moxi_term_print.specs.Shown.{Shows}
-use Rattle.moxi_term_print.specs.StandingReads.{whole}
+use Rattle.moxi_term_print.specs.WellScopedReads.{whole}
 use Rattle.moxi_term_print.specs.Terms.{shown_term, variable_names}
 use Rattle.moxi_scripts.specs.Declarations.{clash_failures}
 use Rattle.moxi_scripts.specs.Formulas.{reading_of, term_failures, term_of}
-use Rattle.moxi_scripts.specs.Whole.{IsFormula, over}
+use Rattle.moxi_scripts.specs.Valid.{IsFormula, over}
 use Rattle.moxi_script_print.specs.laws.VariableNames.{names_of_locals}
 use Rattle.moxi_script_print.proofs.AgainParts.{ReadsBack}
 

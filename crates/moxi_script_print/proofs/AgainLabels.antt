@@ -25,7 +25,7 @@ use Rattle.moxi_script_print.specs.Printing.{attribute, shown_label, shown_label
 use Rattle.moxi_scripts.specs.QueryReading as query
 use Rattle.moxi_scripts.specs.Script.{PlainFormula}
 use Rattle.moxi_scripts.specs.Shapes.{named, parts_of}
-use Rattle.moxi_scripts.specs.Whole.{AreFormulas, IsFormula, formula_names}
+use Rattle.moxi_scripts.specs.Valid.{AreFormulas, IsFormula, formula_names}
 use Rattle.moxi_script_print.proofs.AgainAttributes.{IsTail, attribute_forms, is_once, tail_more}
 use Rattle.moxi_script_print.proofs.AgainFormulas.{term_again, term_passes}
 use Rattle.moxi_script_print.proofs.AgainParts.{ReadsBack, some_if}

@@ -1,4 +1,4 @@
--- No test of links fails in a whole script that is shown and read again.
+-- No test of links fails in a valid script that is shown and read again.
 use Rattle.std.proofs.Common.{◌≡◌, ◌==◌, ℕ, zero, suc, ◌+◌, ◌<◌, Bool, true, false, not, cond, ◌&&◌, is_none, Option, None, Some, List, [], ◌∷◌, ◌++◌, map, length, refl, sym, ap, ◌∙◌, append_assoc, arith}
 use Rattle.std.specs.Prelude.{slice_get}
 use Rattle.std.specs.Option.{option_map}
@@ -27,7 +27,7 @@ use Rattle.moxi_scripts.specs.Declarations.{clash_failures, is_taken}
 use Rattle.moxi_scripts.specs.Links as links
 use Rattle.moxi_scripts.specs.Script.{PlainCheck, PlainSystem, system_at}
 use Rattle.moxi_scripts.specs.Systems.{SystemReading}
-use Rattle.moxi_scripts.specs.Whole.{FitsSystem, system_names}
+use Rattle.moxi_scripts.specs.Valid.{FitsSystem, system_names}
 use Rattle.moxi_script_print.proofs.AgainChecks.{AgreeCheck}
 use Rattle.moxi_script_print.proofs.AgainCommands.{AgreeSystems, AreUntaken, term_names}
 use Rattle.moxi_script_print.proofs.AgainDeclarations.{same_refl}

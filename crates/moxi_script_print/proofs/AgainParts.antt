@@ -16,23 +16,23 @@ use Rattle.moxi_terms.specs.Sorts.{IsSort}
 use Rattle.moxi_terms.specs.Tree.{Tree}
 use Rattle.moxi_terms.specs.View.{ScopeState}
 use Rattle.moxi_term_print.specs.Shown.{Shows}
-use Rattle.moxi_term_print.specs.Standing.{Stands}
-use Rattle.moxi_term_print.specs.StandingReads.{StandsSort, whole}
+use Rattle.moxi_term_print.specs.WellScoped.{IsWellScoped}
+use Rattle.moxi_term_print.specs.WellScopedReads.{IsKnownSort, whole}
 use Rattle.moxi_term_print.specs.Terms.{shown_sort, shown_term}
 
 -- SORTS AND TERMS
 
--- a form that is shown as a term that can stand in its place spells it
+-- a form that is shown as a term that can appear in its place spells it
 abbrev pub TermsRead : Type 0
-TermsRead = (c : Context) (bounds : List Local) (t : Tree) (s : Sort) (f : form.Tree) → Stands c bounds t s → Shows f (shown_term c.scope (names_of c.variables) (names_of bounds) t) → read c bounds f ≡ whole t s
+TermsRead = (c : Context) (bounds : List Local) (t : Tree) (s : Sort) (f : form.Tree) → IsWellScoped c bounds t s → Shows f (shown_term c.scope (names_of c.variables) (names_of bounds) t) → read c bounds f ≡ whole t s
 
 -- a form that is shown as a sort that is named by its name spells it
 abbrev pub SortsRead : Type 0
-SortsRead = (s : ScopeState) (around : Place) (sort : Sort) (f : form.Tree) → StandsSort s sort → Shows f (shown_sort s sort) → sort_reading s around f ≡ Ok sort
+SortsRead = (s : ScopeState) (around : Place) (sort : Sort) (f : form.Tree) → IsKnownSort s sort → Shows f (shown_sort s sort) → sort_reading s around f ≡ Ok sort
 
 -- the sorts of a scope are named by their names
 abbrev pub SortsStand : Type 0
-SortsStand = (s : ScopeState) (sort : Sort) → are_fresh [] (enumeration_names s) ≡ true → is_among (enumeration_names s) (codes "Bool") ≡ false → IsSort s.enumerations sort → StandsSort s sort
+SortsStand = (s : ScopeState) (sort : Sort) → are_fresh [] (enumeration_names s) ≡ true → is_among (enumeration_names s) (codes "Bool") ≡ false → IsSort s.enumerations sort → IsKnownSort s sort
 
 -- what is shown of sorts and terms in a scope is read again
 pub record ReadsBack (s : ScopeState) : Type 0 where

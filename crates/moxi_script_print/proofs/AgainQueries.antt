@@ -27,7 +27,7 @@ use Rattle.moxi_script_print.specs.Printing.{names_of, query_names, shown_names,
 use Rattle.moxi_scripts.specs.QueryReading as query
 use Rattle.moxi_scripts.specs.Script.{PlainFormula}
 use Rattle.moxi_scripts.specs.Shapes.{parts_of}
-use Rattle.moxi_scripts.specs.Whole.{IsWholeQuery, formula_names}
+use Rattle.moxi_scripts.specs.Valid.{IsValidQuery, formula_names}
 use Rattle.moxi_scripts.specs.Whole as whole
 use Rattle.moxi_script_print.proofs.AgainAttributes.{IsTail, attribute_forms, tail_end, tail_more}
 use Rattle.moxi_script_print.proofs.AgainLabels.{made_labels}
@@ -143,7 +143,7 @@ shows_none form.no_trees h = refl
 shows_none (form.tree t ts) h = absurd h
 
 names_read : (fs gs hs : List PlainFormula) (q : Query) (ts : form.Trees) → AreThree (formula_names fs) (formula_names gs) (formula_names hs)
-    → IsWholeQuery (length (formula_names fs)) (length (formula_names gs)) (length (formula_names hs)) q
+    → IsValidQuery (length (formula_names fs)) (length (formula_names gs)) (length (formula_names hs)) q
     → ShowEach ts (shown_symbols (query_names (formula_names fs) (formula_names gs) (formula_names hs) q)) → AreNames fs gs hs q ts
 names_read fs gs hs q ts three w h =
     let ls = made_labels fs gs hs in
@@ -166,7 +166,7 @@ record IsReadQuery (fs gs hs : List PlainFormula) (q : Query) (t : form.Tree) : 
   pub listed : is_list_form t ≡ true
 
 query_read : (fs gs hs : List PlainFormula) (q : Query) (t : form.Tree) → AreThree (formula_names fs) (formula_names gs) (formula_names hs)
-    → IsWholeQuery (length (formula_names fs)) (length (formula_names gs)) (length (formula_names hs)) q
+    → IsValidQuery (length (formula_names fs)) (length (formula_names gs)) (length (formula_names hs)) q
     → Shows t (shown_names q.name (query_names (formula_names fs) (formula_names gs) (formula_names hs) q)) → IsReadQuery fs gs hs q t
 query_read fs gs hs q t three w h =
     let ls = made_labels fs gs hs in
@@ -208,7 +208,7 @@ more_queries fs gs hs q qs before p t ts new one r =
     }
 
 pub queries_read : (fs gs hs : List PlainFormula) (qs : List Query) (before : List (List ℕ)) (ts : form.Trees) → AreThree (formula_names fs) (formula_names gs) (formula_names hs)
-    → AllByRecursion (IsWholeQuery (length (formula_names fs)) (length (formula_names gs)) (length (formula_names hs))) qs → are_fresh before (whole.query_names qs) ≡ true
+    → AllByRecursion (IsValidQuery (length (formula_names fs)) (length (formula_names gs)) (length (formula_names hs))) qs → are_fresh before (whole.query_names qs) ≡ true
     → ShowEach ts (shown_queries (formula_names fs) (formula_names gs) (formula_names hs) qs) → AreReadQueries fs gs hs qs before ts
 queries_read fs gs hs [] before form.no_trees three w d h = record { is = refl; pass = refl; no_labels = λ s locals. (refl, refl); tail = tail_end Check }
 queries_read fs gs hs [] before (form.tree t ts) three w d h = absurd h

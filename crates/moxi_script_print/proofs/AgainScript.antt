@@ -1,4 +1,4 @@
--- A whole script that is shown is spelled by the forms.
+-- A valid script that is shown is spelled by the forms.
 use Rattle.std.proofs.Common.{◌≡◌, ℕ, ◌<◌, true, false, List, [], ◌∷◌, ◌++◌, map, length, refl, sym, ap, ◌∙◌}
 use Rattle.text_core.specs.declared.place.Place.{Place}
 use Rattle.moxi_sexpr.specs.Tree.{Trees}
@@ -22,7 +22,7 @@ use Rattle.moxi_script_print.specs.Printing.{shown_check, shown_script}
 use Rattle.moxi_scripts.specs.Script.{PlainCheck, PlainScript, PlainSystem}
 use Rattle.moxi_scripts.specs.Spelling.{check_of, number_or_none, script_with, subsystem_of, system_of}
 use Rattle.moxi_scripts.specs.Systems.{SystemReading}
-use Rattle.moxi_scripts.specs.Whole.{IsWhole, check_variables, system_names}
+use Rattle.moxi_scripts.specs.Valid.{IsValid, check_variables, system_names}
 use Rattle.moxi_script_print.proofs.AgainChecks.{AgreeCheck, check_read, reading_checked}
 use Rattle.moxi_script_print.proofs.AgainCommands.{AgreeSystems, all_back, commands_go, reading_at, term_names}
 use Rattle.moxi_script_print.proofs.AgainCycles.{cycles_pass}
@@ -104,7 +104,7 @@ module _ (ss : List PlainSystem) (fresh : are_fresh [] (system_names ss) ≡ tru
 
 -- ALL OF IT
 
-pub script_read : TermsRead → SortsRead → SortsStand → (s : PlainScript) (ts : Trees) (end : Place) → IsWhole s → ShowEach ts (shown_script s) → ReadsAs ts end s
+pub script_read : TermsRead → SortsRead → SortsStand → (s : PlainScript) (ts : Trees) (end : Place) → IsValid s → ShowEach ts (shown_script s) → ReadsAs ts end s
 script_read terms_read sorts_read sorts_stand s ts end w h =
     let u = s.scope in
     let ss = s.systems in

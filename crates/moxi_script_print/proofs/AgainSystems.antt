@@ -30,7 +30,7 @@ use Rattle.moxi_scripts.specs.Script.{PlainSystem, variables_in}
 use Rattle.moxi_scripts.specs.Systems as systems
 use Rattle.moxi_scripts.specs.Systems.{SystemReading, locals_of, text_entries_in, variables_failures}
 use Rattle.moxi_scripts.specs.Uses.{uses_failures, uses_in}
-use Rattle.moxi_scripts.specs.Whole.{AreVariables, IsWholeSystem}
+use Rattle.moxi_scripts.specs.Valid.{AreVariables, IsValidSystem}
 use Rattle.moxi_script_print.proofs.AgainAttributes.{has_formulas, has_lists, list_forms, formula_forms, system_shape}
 use Rattle.moxi_script_print.proofs.AgainEntries.{Agree, agree_append, agree_differ, agree_locals, agree_names, list_read}
 use Rattle.moxi_script_print.proofs.AgainFormulas.{term_again, term_passes}
@@ -101,7 +101,7 @@ record IsReadSystem (s : ScopeState) (names : List (List ℕ)) (all : List Plain
   pub shape : shape_holds System ts ≡ true
   pub pass : systems.content_failures s ts ≡ []
 
-content_read : (s : ScopeState) (names : List (List ℕ)) (all : List PlainSystem) (x : PlainSystem) (ts : form.Trees) → ReadsBack s → IsWholeSystem s all x
+content_read : (s : ScopeState) (names : List (List ℕ)) (all : List PlainSystem) (x : PlainSystem) (ts : form.Trees) → ReadsBack s → IsValidSystem s all x
     → ShowEach ts (joined (shown_lists s x.inputs x.outputs x.locals)
     (joined (shown_formulas s (variable_names (variables_in x)) x.init x.trans x.inv) (shown_subsystems names (variable_names (variables_in x)) x.subsystems)))
     → IsReadSystem s names all x ts
@@ -205,7 +205,7 @@ system_passes : (r : Reading) (p q n : Place) (name : List ℕ) (ts : form.Trees
 system_passes r p q n name ts new shape pass =
     ap (λ b. fails_if (not b) 9 n ++ systems.shaped_failures r.scope p ts) new ∙ ap (λ b. cond b (systems.content_failures r.scope ts) (refusal 12 p ∷ [])) shape ∙ pass
 
-pub system_read : (names : List (List ℕ)) (all : List PlainSystem) (x : PlainSystem) (r : Reading) (f : form.Tree) → ReadsBack r.scope → IsWholeSystem r.scope all x
+pub system_read : (names : List (List ℕ)) (all : List PlainSystem) (x : PlainSystem) (r : Reading) (f : form.Tree) → ReadsBack r.scope → IsValidSystem r.scope all x
     → is_none (place_of r.system_names x.name) ≡ true → Shows f (shown_system r.scope names x) → IsNextSystem r.scope names all x r f
 system_read names all x r f back w new h =
     let c = is_command f (codes "define-system") x.name _ h in

@@ -36,7 +36,7 @@ use Rattle.moxi_scripts.specs.Shapes.{HeadedForms, headed}
 use Rattle.moxi_scripts.specs.Spelling.{actual_numbers}
 use Rattle.moxi_scripts.specs.QueryReading.{names_with_named}
 use Rattle.moxi_scripts.specs.Uses as uses
-use Rattle.moxi_scripts.specs.Whole.{IsWholeSubsystem, subsystem_names}
+use Rattle.moxi_scripts.specs.Valid.{IsValidSubsystem, subsystem_names}
 use Rattle.moxi_script_print.proofs.AgainAttributes.{IsTail, attribute_forms, tail_end, tail_more}
 use Rattle.moxi_script_print.proofs.AgainParts.{first_or, rest_of}
 use Rattle.moxi_script_print.proofs.AgainShapes.{is_attribute, is_listed, is_named, named_form}
@@ -140,7 +140,7 @@ record IsReadUse (names : List (List ℕ)) (all : List PlainSystem) (locals : Li
 abbrev headed_forms : List ℕ → Place → form.Trees → HeadedForms
 headed_forms name p ts = record { name = name; primed = false; place = p; rest = ts }
 
-use_read : (names : List (List ℕ)) (all : List PlainSystem) (vs : List Variable) (b : script.Subsystem) (f : form.Tree) → are_fresh [] (variable_names vs) ≡ true → IsWholeSubsystem all vs b
+use_read : (names : List (List ℕ)) (all : List PlainSystem) (vs : List Variable) (b : script.Subsystem) (f : form.Tree) → are_fresh [] (variable_names vs) ≡ true → IsValidSubsystem all vs b
     → Shows f (shown_subsystem names (variable_names vs) b) → IsReadUse names all (locals_of vs) b f
 use_read names all vs b f fresh w h =
     let locals = locals_of vs in
@@ -185,7 +185,7 @@ more_uses names all locals b bs before p f ts new one r = record {
 }
 
 pub uses_read : (names : List (List ℕ)) (all : List PlainSystem) (vs : List Variable) (bs : List script.Subsystem) (before : List (List ℕ)) (ts : form.Trees) → are_fresh [] (variable_names vs) ≡ true
-    → AllByRecursion (IsWholeSubsystem all vs) bs → are_fresh before (subsystem_names bs) ≡ true → ShowEach ts (shown_subsystems names (variable_names vs) bs) → AreReadUses names all (locals_of vs) bs before ts
+    → AllByRecursion (IsValidSubsystem all vs) bs → are_fresh before (subsystem_names bs) ≡ true → ShowEach ts (shown_subsystems names (variable_names vs) bs) → AreReadUses names all (locals_of vs) bs before ts
 uses_read names all vs [] before form.no_trees fresh w d h = record { agree = tt; pass = refl; tail = tail_end System }
 uses_read names all vs [] before (form.tree t ts) fresh w d h = absurd h
 uses_read names all vs (b ∷ bs) before ts fresh w d h =

@@ -1,4 +1,4 @@
--- What stands before a function of a whole scope grows to the scope, so that the function's body can stand in all of it; and the
+-- What is before a function of a valid scope grows to the scope, so that the function's body can appear in all of it; and the
 -- names of the sorts mean them.
 use Rattle.std.proofs.Common.{◌≡◌, ℕ, zero, suc, Bool, true, false, is_some, is_none, Option, None, Some, List, [], ◌∷◌, ◌++◌, map, take, drop, refl, sym, ap, ◌∙◌, subst, append-nil}
 use Rattle.std.specs.Prelude.{slice_get, codes}
@@ -15,18 +15,18 @@ use Rattle.moxi_terms.specs.Sorted.{AreSorts}
 use Rattle.moxi_terms.specs.Sorts.{IsSort}
 use Rattle.moxi_terms.specs.Tree.{PlainFunction, Tree, sorts_of}
 use Rattle.moxi_terms.specs.View.{ScopeState}
-use Rattle.moxi_term_print.specs.Standing.{Stands}
+use Rattle.moxi_term_print.specs.WellScoped.{IsWellScoped}
 use Rattle.moxi_term_print.specs.StandingGrows.{Grows, in_scope}
-use Rattle.moxi_term_print.specs.StandingReads.{HasSortNames}
-use Rattle.moxi_scripts.specs.Whole.{IsWholeScope, before, is_fixed_sort, is_fixed_term, over}
+use Rattle.moxi_term_print.specs.WellScopedReads.{HasSortNames}
+use Rattle.moxi_scripts.specs.Valid.{IsValidScope, before, is_fixed_sort, is_fixed_term, over}
 use Rattle.moxi_scripts.specs.laws.WholeNames.{Absent, absent_parts, fresh_first, fresh_split, is_absent, or_both, or_parts, other_way}
 use Rattle.moxi_scripts.specs.laws.WholeParts.{all_of, all_parts, map_append}
 use Rattle.moxi_scripts.specs.laws.WholeScopes.{term_new}
 use Rattle.moxi_scripts.proofs.WholeGrowth.{none_equal}
 
--- a term that can stand in a scope can stand in one that has grown from it
+-- a term that can appear in a scope can appear in one that has grown from it
 abbrev pub TermsStandOn : Type 0
-TermsStandOn = (c : Context) (bounds : List Local) (t : Tree) (s : Sort) (u : ScopeState) → Stands c bounds t s → Grows c.scope u → Stands (in_scope c u) bounds t s
+TermsStandOn = (c : Context) (bounds : List Local) (t : Tree) (s : Sort) (u : ScopeState) → IsWellScoped c bounds t s → Grows c.scope u → IsWellScoped (in_scope c u) bounds t s
 
 is_some_not : {A : Type 0} (o : Option A) → is_none o ≡ true → is_some o ≡ false
 is_some_not None h = refl
@@ -49,8 +49,8 @@ all_two P Q R (x ∷ xs) f a b = (f x a.0 b.0, all_two P Q R xs f a.1 b.1)
 abbrev names_in : List PlainFunction → List (List ℕ)
 names_in fs = map (λ (f : PlainFunction). f.name) fs
 
-module _ (s : ScopeState) (w : IsWholeScope s) (n : ℕ) where
-  -- the functions from this one on have names that what stands before it hasn't
+module _ (s : ScopeState) (w : IsValidScope s) (n : ℕ) where
+  -- the functions from this one on have names that what is before it hasn't
   later_new : AllByRecursion (λ (name : List ℕ). is_term_name (before s n) name ≡ false) (names_in (drop n s.functions))
   later_new =
       let cs = all_constants s.enumerations in
@@ -75,17 +75,17 @@ module _ (s : ScopeState) (w : IsWholeScope s) (n : ℕ) where
     fresh = λ name h. (not_among [] name refl, not_among (names_in (drop n s.functions)) name (none_equal (before s n) name (names_in (drop n s.functions)) h later_new));
   }
 
--- a function's body can stand in the whole scope, over its parameters
+-- a function's body can appear in the whole scope, over its parameters
 pub record StandsInAll (s : ScopeState) (f : PlainFunction) : Type 0 where
   pub parameters : AreSorts s.enumerations (sorts_of f.parameters)
   pub result : IsSort s.enumerations f.result
-  pub body : Stands (over s f.parameters Refused) [] f.body f.result
+  pub body : IsWellScoped (over s f.parameters Refused) [] f.body f.result
 
 all_by_place : {A : Type 0} (P : A → Type 0) (xs : List A) → ((n : ℕ) (x : A) → slice_get xs n ≡ Some x → P x) → AllByRecursion P xs
 all_by_place P [] f = tt
 all_by_place P (x ∷ xs) f = (f zero x refl, all_by_place P xs (λ n y h. f (suc n) y h))
 
-pub functions_stand : TermsStandOn → (s : ScopeState) → IsWholeScope s → AllByRecursion (StandsInAll s) s.functions
+pub functions_stand : TermsStandOn → (s : ScopeState) → IsValidScope s → AllByRecursion (StandsInAll s) s.functions
 functions_stand on s w =
     all_by_place (StandsInAll s) s.functions
     (λ n f h.
@@ -104,7 +104,7 @@ bool_absent (name ∷ names) a =
     or_both (bytes_eq (codes "Bool") name) (list_any (bytes_eq (codes "Bool")) names) (other_way name (codes "Bool") (or_parts (bytes_eq name (codes "Bool")) (bytes_eq name (codes "BitVec")) a.0).0)
     (bool_absent names a.1)
 
-pub has_sort_names : (s : ScopeState) → IsWholeScope s → HasSortNames s
+pub has_sort_names : (s : ScopeState) → IsValidScope s → HasSortNames s
 has_sort_names s w = record {
   fresh = (fresh_split [] (enumeration_names s) (sort_names s) w.sorts.differ).0;
   apart = not_among (enumeration_names s) (codes "Bool") (bool_absent (enumeration_names s) (all_parts (λ (name : List ℕ). is_fixed_sort name ≡ false) (enumeration_names s) (sort_names s) w.sorts.free).0);

@@ -1,4 +1,4 @@
--- What is shown of a whole script can be shown, where its names can be spelled.
+-- What is shown of a valid script can be shown, where its names can be spelled.
 use Rattle.std.proofs.Common.{ℕ, IfSome, Option, None, Some, List, [], ◌∷◌, ◌++◌, map, refl, sym, subst}
 use Rattle.std.specs.Prelude.{IsTrue, codes}
 use Rattle.std.specs.List.{AllByRecursion}
@@ -20,9 +20,9 @@ use Rattle.moxi_terms.specs.Tree.{PlainFunction, Tree, sorts_of}
 use Rattle.moxi_terms.specs.View.{ScopeState}
 use Rattle.moxi_term_print.specs.Declarations.{shown_symbols}
 use Rattle.moxi_term_print.specs.Shown.{AllCanBeShown, CanBeShown, Shown, Showns, joined, no_showns, shown}
-use Rattle.moxi_term_print.specs.Standing.{Stands}
+use Rattle.moxi_term_print.specs.WellScoped.{IsWellScoped}
 use Rattle.moxi_term_print.specs.StandingNames.{AreSpellable, IsSpellable, IsSpellableScope, NamesAreSpellable}
-use Rattle.moxi_term_print.specs.StandingReads.{HasSortNames, StandsSort}
+use Rattle.moxi_term_print.specs.WellScopedReads.{HasSortNames, IsKnownSort}
 use Rattle.moxi_term_print.specs.Terms.{name_at, shown_sort, shown_term, shown_variables, variable_names}
 use Rattle.moxi_scripts.specs.declared.script.Query.{Query}
 use Rattle.moxi_scripts.specs.declared.script.Subsystem.{Subsystem}
@@ -30,21 +30,21 @@ use Rattle.moxi_script_print.specs.NamesOfScripts.{HasSpellableNames, IsSpellabl
 use Rattle.moxi_script_print.specs.Printing as print
 use Rattle.moxi_script_print.specs.Printing.{all_queries, attribute, formula_attribute, list_attribute, names_of, query_names, shown_check, shown_command, shown_conditions, shown_enumerations, shown_formulas, shown_functions, shown_label, shown_labels, shown_lists, shown_logic, shown_names, shown_queries, shown_script, shown_sorts, shown_subsystem, shown_subsystems, shown_system, shown_systems}
 use Rattle.moxi_scripts.specs.Script.{PlainCheck, PlainFormula, PlainScript, PlainSystem, variables_in}
-use Rattle.moxi_scripts.specs.Whole.{AreFormulas, IsFormula, IsWhole, IsWholeCheck, IsWholeSystem, over, check_variables, formula_names}
+use Rattle.moxi_scripts.specs.Valid.{AreFormulas, IsFormula, IsValid, IsValidCheck, IsValidSystem, over, check_variables, formula_names}
 use Rattle.moxi_script_print.specs.laws.VariableNames.{names_of_locals}
 use Rattle.moxi_script_print.proofs.NamesLawsGrowth.{StandsInAll, TermsStandOn, functions_stand, has_sort_names}
 use Rattle.moxi_scripts.specs.laws.WholeParts.{all_append, all_map, all_of, all_parts}
 use Rattle.moxi_term_print.proofs.StandingShown.{name_spellable}
 
 abbrev pub TermsCanBeShown : Type 0
-TermsCanBeShown = (c : Context) (bounds : List Local) (t : Tree) (s : Sort) → IsSpellableScope c.scope → AreSpellable (reading.names_of c.variables) → AreSpellable (reading.names_of bounds) → Stands c bounds t s → NamesAreSpellable t
+TermsCanBeShown = (c : Context) (bounds : List Local) (t : Tree) (s : Sort) → IsSpellableScope c.scope → AreSpellable (reading.names_of c.variables) → AreSpellable (reading.names_of bounds) → IsWellScoped c bounds t s → NamesAreSpellable t
     → CanBeShown (shown_term c.scope (reading.names_of c.variables) (reading.names_of bounds) t)
 
 abbrev pub SortsCanBeShown : Type 0
-SortsCanBeShown = (s : ScopeState) (sort : Sort) → IsSpellableScope s → StandsSort s sort → CanBeShown (shown_sort s sort)
+SortsCanBeShown = (s : ScopeState) (sort : Sort) → IsSpellableScope s → IsKnownSort s sort → CanBeShown (shown_sort s sort)
 
 abbrev pub SortsStand : Type 0
-SortsStand = (s : ScopeState) (sort : Sort) → HasSortNames s → IsSort s.enumerations sort → StandsSort s sort
+SortsStand = (s : ScopeState) (sort : Sort) → HasSortNames s → IsSort s.enumerations sort → IsKnownSort s sort
 
 -- PARTS
 
@@ -102,7 +102,7 @@ module _ (terms : TermsCanBeShown) (sorts : SortsCanBeShown) (stand : SortsStand
   variables_shown [] i h = tt
   variables_shown (v ∷ vs) i h = ((h.0, (sort_shown v.sort i.0, tt)), variables_shown vs i.1 h.1)
 
-  term_shown : (vs : List Variable) (primes : Primes) (t : Tree) (sort : Sort) → VariablesAreSpellable vs → Stands (over s vs primes) [] t sort → NamesAreSpellable t → CanBeShown (shown_term s (variable_names vs) [] t)
+  term_shown : (vs : List Variable) (primes : Primes) (t : Tree) (sort : Sort) → VariablesAreSpellable vs → IsWellScoped (over s vs primes) [] t sort → NamesAreSpellable t → CanBeShown (shown_term s (variable_names vs) [] t)
   term_shown vs primes t sort h i n =
       subst (λ ns. CanBeShown (shown_term s ns [] t)) (names_of_locals vs)
       (terms (over s vs primes) [] t sort scope (subst AreSpellable (sym (names_of_locals vs)) (variables_spellable vs h)) tt i n)
@@ -162,7 +162,7 @@ module _ (terms : TermsCanBeShown) (sorts : SortsCanBeShown) (stand : SortsStand
       (attribute_shown (codes "subsys") (shown_subsystem systems vars b) refl
       (names_shown b.name (name_at systems b.system ∷ names_of vars b.actuals) n.0 (name_spellable systems b.system h, numbered_spellable vars b.actuals g))) (subsystems_shown systems vars bs h g n.1)
 
-  system_shown : (ss : List PlainSystem) (systems : List (List ℕ)) (x : PlainSystem) → AreSpellable systems → IsWholeSystem s ss x → IsSpellableSystem x → CanBeShown (shown_system s systems x)
+  system_shown : (ss : List PlainSystem) (systems : List (List ℕ)) (x : PlainSystem) → AreSpellable systems → IsValidSystem s ss x → IsSpellableSystem x → CanBeShown (shown_system s systems x)
   system_shown ss systems x h w n =
       let vs = variables_in x in
       let vars = variable_names vs in
@@ -174,7 +174,7 @@ module _ (terms : TermsCanBeShown) (sorts : SortsCanBeShown) (stand : SortsStand
       (joined_shown (shown_formulas s vars x.init x.trans x.inv) (shown_subsystems systems vars x.subsystems) (formulas_shown vs x all w.init w.trans w.inv n)
       (subsystems_shown systems vars x.subsystems h (variables_spellable vs all) n.subsystems)))
 
-  systems_shown : (ss : List PlainSystem) (systems : List (List ℕ)) (xs : List PlainSystem) → AreSpellable systems → AllByRecursion (IsWholeSystem s ss) xs → AllByRecursion IsSpellableSystem xs
+  systems_shown : (ss : List PlainSystem) (systems : List (List ℕ)) (xs : List PlainSystem) → AreSpellable systems → AllByRecursion (IsValidSystem s ss) xs → AllByRecursion IsSpellableSystem xs
       → AllCanBeShown (shown_systems s systems xs)
   systems_shown ss systems [] h w n = tt
   systems_shown ss systems (x ∷ xs) h w n = (system_shown ss systems x h w.0 n.0, systems_shown ss systems xs h w.1 n.1)
@@ -210,7 +210,7 @@ module _ (terms : TermsCanBeShown) (sorts : SortsCanBeShown) (stand : SortsStand
       (queries_shown (formula_names c.assumptions) (formula_names c.currents) (formula_names c.reachables) c.queries (formula_names_spellable c.assumptions n.assumptions) (formula_names_spellable c.currents n.currents)
       (formula_names_spellable c.reachables n.reachables) n.queries)))
 
-  check_shown : (ss : List PlainSystem) (systems : List (List ℕ)) (c : PlainCheck) → AreSpellable systems → IsWholeCheck s ss c → IsSpellableCheck c → CanBeShown (shown_check s systems c)
+  check_shown : (ss : List PlainSystem) (systems : List (List ℕ)) (c : PlainCheck) → AreSpellable systems → IsValidCheck s ss c → IsSpellableCheck c → CanBeShown (shown_check s systems c)
   check_shown ss systems c h w n =
       let vs = check_variables c in
       let all = three_lists c.inputs c.outputs c.locals n.inputs n.outputs n.locals in
@@ -228,7 +228,7 @@ function_names_spellable : (fs : List PlainFunction) → AreSpellable (map (λ (
 function_names_spellable [] n = tt
 function_names_spellable (f ∷ fs) n = (n.0, function_names_spellable fs n.1)
 
-pub script_shown : TermsCanBeShown → SortsCanBeShown → SortsStand → TermsStandOn → (p : PlainScript) → IsWhole p → HasSpellableNames p → AllCanBeShown (shown_script p)
+pub script_shown : TermsCanBeShown → SortsCanBeShown → SortsStand → TermsStandOn → (p : PlainScript) → IsValid p → HasSpellableNames p → AllCanBeShown (shown_script p)
 script_shown terms sorts stand on p w n =
     let s = p.scope in
     let systems = print.system_names p.systems in

@@ -1,4 +1,4 @@
--- Forms that are shown so, all at the start of a text, spell a whole script whose check stands there.
+-- Forms that are shown so, all at the start of a text, spell a valid script whose check is there.
 use Rattle.std.proofs.Common.{◌≡◌, Bool, true, false, if◌then◌else◌, IfSome, Option, Some, None, refl, sym, ap, ◌∙◌, subst, ℕ, not, ◌&&◌, ◌||◌, ◌==◌, IsTrue, List, [], ◌∷◌}
 use Rattle.text_core.specs.declared.place.Place.{Place}
 use Rattle.text_core.specs.Places.{start}
@@ -16,11 +16,11 @@ use Rattle.moxi_scripts.specs.Spelling.{SpellsScript}
 use Rattle.moxi_script_print.specs.NamesOfScripts.{HasSpellableNames}
 use Rattle.moxi_script_print.specs.Printing.{shown_script}
 use Rattle.moxi_script_print.specs.Again.{with_place, ReadsAs}
-use Rattle.moxi_scripts.specs.Whole.{IsWhole}
+use Rattle.moxi_scripts.specs.Valid.{IsValid}
 use Rattle.std.specs.List.{list_all}
 use Rattle.std.proofs.lemmas.Bool.{and_from, and_parts, eqb-true}
 use Rattle.moxi_sexpr.specs.declared.form.Atom.TheVariants.{Symbol}
-use Rattle.moxi_sexpr.specs.Atoms.{is_simple, may_stand}
+use Rattle.moxi_sexpr.specs.Atoms.{is_simple, may_appear}
 use Rattle.moxi_sexpr.specs.Bytes.{is_symbol_byte, is_barred_byte}
 use Rattle.moxi_sexpr.specs.Printing.{IsPrintable, ArePrintable, is_among, reserved_words}
 use Rattle.moxi_term_print.specs.StandingNames.{IsSpellable}
@@ -35,7 +35,7 @@ pick P false x y h k = k refl
 
 pub barred_spellable : (x : List ℕ) → list_all is_barred_byte x ≡ true → IsSpellable x
 barred_spellable x h =
-    pick (λ s. IsTrue (may_stand s x)) (is_simple x && not (is_among x reserved_words)) _ _ (λ e. (and_parts (is_simple x) (not (is_among x reserved_words)) e).0) (λ e. h)
+    pick (λ s. IsTrue (may_appear s x)) (is_simple x && not (is_among x reserved_words)) _ _ (λ e. (and_parts (is_simple x) (not (is_among x reserved_words)) e).0) (λ e. h)
 
 pub not_barred : (b : ℕ) (p : ℕ → Bool) → p b ≡ true → p 124 ≡ false → p 92 ≡ false → is_barred_byte b ≡ true
 not_barred b p h f g = by (b == 124) (b == 92) refl refl
@@ -81,7 +81,7 @@ mutual
   all_printable no_showns h = tt
   all_printable (shown x xs) h = (formed_printable x h.0, all_printable xs h.1)
 
--- ---- the check that is read stands at the start
+-- ---- the check that is read is at the start
 
 abbrev pub StartsIf : Option CheckReading → Type 0
 StartsIf o = IfSome o (λ (c : CheckReading). c.place ≡ start)
@@ -126,13 +126,13 @@ forms_start r (shown x xs) h = forms_start (with_form r (formed x)) xs (form_sta
 
 -- what is known of scripts that are printed
 abbrev pub CanBePrinted : Type 0
-CanBePrinted = (s : PlainScript) → IsWhole s → HasSpellableNames s → AllCanBeShown (shown_script s)
+CanBePrinted = (s : PlainScript) → IsValid s → HasSpellableNames s → AllCanBeShown (shown_script s)
 
 abbrev pub IsReadAs : Type 0
-IsReadAs = (s : PlainScript) (ts : form.Trees) (end : Place) → IsWhole s → ShowEach ts (shown_script s) → ReadsAs ts end s
+IsReadAs = (s : PlainScript) (ts : form.Trees) (end : Place) → IsValid s → ShowEach ts (shown_script s) → ReadsAs ts end s
 
--- a script with its check at the start is spelled by forms that stand there
-pub spelled_at_start : CanBePrinted → IsReadAs → (s : PlainScript) → s.check.place ≡ start → IsWhole s → HasSpellableNames s → IsSpelled s
+-- a script with its check at the start is spelled by forms that are there
+pub spelled_at_start : CanBePrinted → IsReadAs → (s : PlainScript) → s.check.place ≡ start → IsValid s → HasSpellableNames s → IsSpelled s
 spelled_at_start printed read s p whole names =
     let xs = shown_script s in
     let r = read s (all_formed xs) start whole (all_shown xs) in

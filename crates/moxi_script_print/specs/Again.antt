@@ -1,4 +1,4 @@
--- What forms that show a whole script spell.
+-- What forms that show a valid script spell.
 use Rattle.text_core.specs.declared.place.Place.{Place}
 use Rattle.moxi_sexpr.specs.Tree.{Trees}
 use Rattle.moxi_scripts.specs.Script.{PlainScript}

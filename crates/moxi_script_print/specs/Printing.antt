@@ -13,9 +13,9 @@ use Rattle.moxi_term_print.specs.Declarations.{shown_symbols, shown_enumeration,
 use Rattle.moxi_scripts.specs.declared.script.Subsystem.{Subsystem}
 use Rattle.moxi_scripts.specs.declared.script.Query.{Query}
 use Rattle.moxi_scripts.specs.Script.{PlainSystem, PlainFormula, PlainCheck, PlainScript, variables_in}
-use Rattle.moxi_scripts.specs.Whole.{check_variables, formula_names}
+use Rattle.moxi_scripts.specs.Valid.{check_variables, formula_names}
 
--- a keyword and what stands behind it
+-- a keyword and what is behind it
 unfoldable pub attribute : List ℕ → Shown → Showns
 attribute name x = shown (part (atoms.Keyword name)) (shown x no_showns)
 
@@ -90,7 +90,7 @@ shown_queries assumptions currents reachables (q ∷ qs) =
 abbrev pub all_queries : PlainCheck → Showns
 all_queries c = shown_queries (formula_names c.assumptions) (formula_names c.currents) (formula_names c.reachables) c.queries
 
--- what stands behind the three lists of a check
+-- what is behind the three lists of a check
 unfoldable pub shown_conditions : ScopeState → List (List ℕ) → PlainCheck → Showns
 shown_conditions s vars c =
     joined (shown_labels s vars (codes "assumption") c.assumptions) (joined (shown_labels s vars (codes "current") c.currents) (joined (shown_labels s vars (codes "reachable") c.reachables) (all_queries c)))

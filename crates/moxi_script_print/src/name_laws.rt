@@ -7,7 +7,7 @@ ghost use Rattle.moxi_script_print.specs.NamesOfScripts.{HasSpellableNames};
 ghost use Rattle.moxi_script_print.specs.Printing.{shown_script};
 ghost use Rattle.moxi_scripts.specs.Script.{PlainScript};
 ghost use Rattle.moxi_scripts.specs.Spelling.{SpellsScript};
-ghost use Rattle.moxi_scripts.specs.Whole.{IsWhole};
+ghost use Rattle.moxi_scripts.specs.Valid.{IsValid};
 
 use moxi_term_print::{
     read_names_are_spellable, scopes_stay_spellable, shown_sorts_are_read,
@@ -22,9 +22,9 @@ pub fn printable_forms_give_spellable_names()
     scopes_stay_spellable();
 }
 
-/// Proves that a whole script can be shown if its names can be spelled.
-pub fn whole_scripts_can_be_shown()
-    ensures { (s : PlainScript) → IsWhole s → HasSpellableNames s → AllCanBeShown (shown_script s) }
+/// Proves that a valid script can be shown if its names can be spelled.
+pub fn valid_scripts_can_be_shown()
+    ensures { (s : PlainScript) → IsValid s → HasSpellableNames s → AllCanBeShown (shown_script s) }
 {
     shown_sorts_are_read();
     standing_terms_can_be_shown();

@@ -3,7 +3,7 @@ ghost use Rattle.std.specs.Prelude.{◌≡◌, ◌++◌, ◌∷◌, [], map, cod
 ghost use Rattle.moxi_sexpr.specs.Printing.{bytes_behind};
 ghost use Rattle.moxi_term_print.specs.Shown.{parts_text, text_of};
 ghost use Rattle.moxi_script_print.specs.Printing.{all_queries, attribute, query_names, shown_query, shown_check, shown_conditions, shown_label, shown_labels, shown_names, shown_queries};
-ghost use Rattle.moxi_scripts.specs.Whole.{formula_names};
+ghost use Rattle.moxi_scripts.specs.Valid.{formula_names};
 ghost use Rattle.moxi_scripts.specs.Script.{plain_check, plain_formula};
 
 use crate::print_parts::{

@@ -8,8 +8,8 @@ ghost use Rattle.moxi_script_print.specs.ReadBack.{ReadsBackScript};
 ghost use Rattle.moxi_scripts.specs.Script.{PlainScript};
 
 use crate::again_laws::printed_scripts_are_spelled;
-use crate::name_laws::{printable_forms_give_spellable_names, whole_scripts_can_be_shown};
-use moxi_scripts::spelled_scripts_are_whole;
+use crate::name_laws::{printable_forms_give_spellable_names, valid_scripts_can_be_shown};
+use moxi_scripts::spelled_scripts_are_valid;
 use moxi_sexpr::readings_are_one;
 use moxi_term_print::shown_is_read_back;
 
@@ -19,9 +19,9 @@ use moxi_term_print::shown_is_read_back;
 pub fn printed_scripts_are_read_back()
     ensures { (s : PlainScript) → ∥ IsSpelled s ∥₁ → shown_depths (shown_script s) ≤ limit → ∥ ReadsBackScript (lines_text (shown_script s)) s ∥₁ }
 {
-    spelled_scripts_are_whole();
+    spelled_scripts_are_valid();
     printable_forms_give_spellable_names();
-    whole_scripts_can_be_shown();
+    valid_scripts_can_be_shown();
     shown_is_read_back();
     readings_are_one();
     printed_scripts_are_spelled();

@@ -1,4 +1,4 @@
--- The queries of a whole script can be asked, and the tests of a step in two parts.
+-- The queries of a valid script can be asked, and the tests of a step in two parts.
 use Rattle.std.proofs.Common.{◌≡◌, ℕ, zero, suc, ◌+◌, ◌<◌, ◌≤◌, ◌&&◌, ◌||◌, drop, Bool, true, false, cond, Some, List, [], ◌∷◌, ◌++◌, length, map, refl, sym, ap, ◌∙◌, subst, arith}
 use Rattle.std.specs.Prelude.{slice_index_or}
 use Rattle.std.specs.List.{AllByRecursion, list_all, list_any}
@@ -15,7 +15,7 @@ use Rattle.moxi_scripts.specs.Behaviour.{Trace}
 use Rattle.moxi_scripts.specs.Meeting.{Hiddens, first_failing, is_reached_before, step_tests}
 use Rattle.moxi_scripts.specs.declared.script.Formula.{Formula}
 use Rattle.moxi_scripts.specs.Script.{PlainFormula, PlainScript, plain_formula}
-use Rattle.moxi_scripts.specs.Whole.{AreFormulas, IsWhole, IsWholeQuery, check_variables, over}
+use Rattle.moxi_scripts.specs.Valid.{AreFormulas, IsValid, IsValidQuery, check_variables, over}
 use Rattle.moxi_scripts.proofs.AskingSorts.{lt_held, sorted_held}
 use Rattle.moxi_scripts.proofs.AskingStands.{stands_sorted}
 use Rattle.moxi_scripts.proofs.Forms.{items_end, items_step}
@@ -49,18 +49,18 @@ truths_of s [] h = tt
 truths_of s (f ∷ fs) h =
     (stands_sorted (over s.scope (check_variables s.check) Refused) (check_sorts s) (known_variables (check_variables s.check)) [] [] f.term Truth tt h.0, truths_of s fs h.1)
 
-module _ (s : PlainScript) (w : ∥ IsWhole s ∥₁) where
-  truths : (fs : List PlainFormula) → (IsWhole s → AreFormulas s.scope (check_variables s.check) fs) → AreTruths s fs
+module _ (s : PlainScript) (w : ∥ IsValid s ∥₁) where
+  truths : (fs : List PlainFormula) → (IsValid s → AreFormulas s.scope (check_variables s.check) fs) → AreTruths s fs
   truths fs f =
-      all_known (λ (x : PlainFormula). IsTruth s x.term) (IsWhole s) fs w (λ v. truths_of s fs (f v)) (λ x. sorted_held s.scope.enumerations s.scope.functions (check_sorts s) [] x.term Truth)
+      all_known (λ (x : PlainFormula). IsTruth s x.term) (IsValid s) fs w (λ v. truths_of s fs (f v)) (λ x. sorted_held s.scope.enumerations s.scope.functions (check_sorts s) [] x.term Truth)
 
-  below : (n : ℕ) (is : List ℕ) → (IsWhole s → AllByRecursion (λ (i : ℕ). i < n) is) → AllByRecursion (λ (i : ℕ). i < n) is
-  below n is f = all_known (λ (i : ℕ). i < n) (IsWhole s) is w f (λ i. lt_held i n)
+  below : (n : ℕ) (is : List ℕ) → (IsValid s → AllByRecursion (λ (i : ℕ). i < n) is) → AllByRecursion (λ (i : ℕ). i < n) is
+  below n is f = all_known (λ (i : ℕ). i < n) (IsValid s) is w f (λ i. lt_held i n)
 
   abbrev IsThere : Query → Type 0
-  IsThere q = IsWholeQuery (length s.check.assumptions) (length s.check.currents) (length s.check.reachables) q
+  IsThere q = IsValidQuery (length s.check.assumptions) (length s.check.currents) (length s.check.reachables) q
 
-  asked : (q : Query) → (IsWhole s → IsThere q) → CanAsk s q
+  asked : (q : Query) → (IsValid s → IsThere q) → CanAsk s q
   asked q f = record {
     assumptions_there = below (length s.check.assumptions) q.assumptions (λ v. (f v).assumptions_there);
     currents_there = below (length s.check.currents) q.currents (λ v. (f v).currents_there);
@@ -70,7 +70,7 @@ module _ (s : PlainScript) (w : ∥ IsWhole s ∥₁) where
     reachables = truths s.check.reachables (λ v. v.check.formulas.reachables);
   }
 
-  all_asked : (qs : List Query) → (IsWhole s → AllByRecursion IsThere qs) → AllByRecursion (CanAsk s) qs
+  all_asked : (qs : List Query) → (IsValid s → AllByRecursion IsThere qs) → AllByRecursion (CanAsk s) qs
   all_asked [] f = tt
   all_asked (q ∷ qs) f = (asked q (λ v. (f v).0), all_asked qs (λ v. (f v).1))
 

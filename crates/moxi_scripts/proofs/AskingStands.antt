@@ -1,4 +1,4 @@
--- A term that can stand in a place has its sort there.
+-- A term that can appear in a place has its sort there.
 use Rattle.std.proofs.Common.{◌≡◌, ℕ, ◌+◌, Bool, true, false, cond, eqb, Option, None, Some, List, [], ◌∷◌, ◌++◌, length, refl, sym, ap, ◌∙◌, subst, arith}
 use Rattle.std.specs.Prelude.{slice_get, option_and_then, codes}
 use Rattle.std.specs.Option.{option_map}
@@ -22,7 +22,7 @@ use Rattle.moxi_terms.specs.Sorts.{IsOf}
 use Rattle.moxi_terms.specs.Tree.{Tree, constant, variable, bound, apply, binding, call, Trees, no_trees, tree, PlainFunction, sorts_of}
 use Rattle.moxi_term_reading.specs.WellSorted.{HaveKnownSorts}
 use Rattle.moxi_term_reading.specs.laws.SortedParts.{FoundIn, constant_is, first_found, known_append, last_found}
-use Rattle.moxi_term_print.specs.Standing.{StandEach, Stands, StandsValue, bound_locals}
+use Rattle.moxi_term_print.specs.WellScoped.{AreWellScoped, IsWellScoped, IsWellScopedValue, bound_locals}
 use Rattle.moxi_term_print.specs.Terms.{constant_name, name_at}
 
 bound_known : (names : List (List ℕ)) (ss : List Sort) → length names ≡ length ss → HaveKnownSorts (bound_locals names ss) ss
@@ -91,14 +91,14 @@ module _ (c : Context) (vars : List Sort) (of_vars : HaveKnownSorts c.variables 
   meant : (ls : List Local) (ss : List Sort) (name : List ℕ) (m : Meaning) → HaveKnownSorts ls ss → meaning_of c ls name ≡ Some m → Fits ss (Some m)
   meant ls ss name m h e = subst (Fits ss) e (name_fits ls ss name h)
 
-  value_sorted : (ls : List Local) (ss : List Sort) (d : Datum) (s : Sort) → HaveKnownSorts ls ss → StandsValue c ls d s → IsOf c.scope.enumerations s d
+  value_sorted : (ls : List Local) (ss : List Sort) (d : Datum) (s : Sort) → HaveKnownSorts ls ss → IsWellScopedValue c ls d s → IsOf c.scope.enumerations s d
   value_sorted ls ss (datum.Truth b) s k h = subst (λ u. IsOf c.scope.enumerations u (datum.Truth b)) (sym h.0) tt
   value_sorted ls ss (datum.Bits w) s k h = subst (λ u. IsOf c.scope.enumerations u (datum.Bits w)) (sym h.0) (refl, h.1)
   value_sorted ls ss (datum.Constant n i) s k h =
       subst (λ u. IsOf c.scope.enumerations u (datum.Constant n i)) (sym h.0) (meant ls ss (constant_name c.scope n i) (meaning.Value (datum.Constant n i) (Choice n)) k h.1)
 
   mutual
-    pub stands_sorted : (ls : List Local) (ss : List Sort) (t : Tree) (s : Sort) → HaveKnownSorts ls ss → Stands c ls t s → HasSort c.scope.enumerations c.scope.functions vars ss t s
+    pub stands_sorted : (ls : List Local) (ss : List Sort) (t : Tree) (s : Sort) → HaveKnownSorts ls ss → IsWellScoped c ls t s → HasSort c.scope.enumerations c.scope.functions vars ss t s
     stands_sorted ls ss (constant d) s k h = value_sorted ls ss d s k h
     stands_sorted ls ss (variable v primed) s k h =
         let f = meant ls ss (name_at (names_of c.variables) v) (meaning.Variable v (Some s)) k h.0 in
@@ -115,7 +115,7 @@ module _ (c : Context) (vars : List Sort) (of_vars : HaveKnownSorts c.variables 
     )
     stands_sorted ls ss (call n ts) s k h = (h.0, h.1, each_sorted ls ss ts (sorts_of h.0.parameters) k h.3, sym h.2)
 
-    each_sorted : (ls : List Local) (ss : List Sort) (ts : Trees) (us : List Sort) → HaveKnownSorts ls ss → StandEach c ls ts us → HaveSorts c.scope.enumerations c.scope.functions vars ss ts us
+    each_sorted : (ls : List Local) (ss : List Sort) (ts : Trees) (us : List Sort) → HaveKnownSorts ls ss → AreWellScoped c ls ts us → HaveSorts c.scope.enumerations c.scope.functions vars ss ts us
     each_sorted ls ss no_trees [] k h = tt
     each_sorted ls ss no_trees (u ∷ us) k h = absurd h
     each_sorted ls ss (tree t ts) [] k h = absurd h

@@ -30,8 +30,8 @@ use Rattle.moxi_scripts.proofs.FunctionLaws.{none_in, least_found, some_fails}
 use Rattle.moxi_term_reading.specs.laws.Least.{pick_first, pick_other}
 
 -- a check that is read is there
-abbrev IsKept : Reading → Type 0
-IsKept r = r.checked ≡ true → is_some r.check ≡ true
+abbrev IsNameIndex : Reading → Type 0
+IsNameIndex r = r.checked ≡ true → is_some r.check ≡ true
 
 check_there : (s : ScopeState) (p : Place) (o : Option HeadedForms) → check_headed_failures s p o ≡ [] → is_some (check_in s p o) ≡ true
 check_there s p None h = some_fails (refusal 12 p) [] h
@@ -45,7 +45,7 @@ first_there : (old new : Option CheckReading) (checked : Bool) (p : Place) → i
 first_there old new true p e h = some_fails (refusal 13 p) [] h
 first_there old new false p e h = e
 
-command_keeps : (c : CommandName) (r : Reading) (p : Place) (ts : Trees) → command_failures c r p ts ≡ [] → IsKept r → IsKept (with_command c r p ts)
+command_keeps : (c : CommandName) (r : Reading) (p : Place) (ts : Trees) → command_failures c r p ts ≡ [] → IsNameIndex r → IsNameIndex (with_command c r p ts)
 command_keeps name.Logic r p ts h k = k
 command_keeps name.PassedOver r p ts h k = k
 command_keeps name.Enumeration r p ts h k = k
@@ -56,21 +56,21 @@ command_keeps name.Check r p ts h k =
     let e = none_in (check_failures r.scope p ts) (fails_if r.checked 13 p) h in
     λ _. first_there r.check (check_in r.scope p (headed ts)) r.checked p (check_there r.scope p (headed ts) e.0) e.1
 
-known_keeps : (o : Option CommandName) (r : Reading) (p : Place) (ts : Trees) → known_failures o r p ts ≡ [] → IsKept r → IsKept (with_known o r p ts)
+known_keeps : (o : Option CommandName) (r : Reading) (p : Place) (ts : Trees) → known_failures o r p ts ≡ [] → IsNameIndex r → IsNameIndex (with_known o r p ts)
 known_keeps None r p ts h k = k
 known_keeps (Some c) r p ts h k = command_keeps c r p ts h k
 
-headed_keeps : (o : Option HeadedForms) (r : Reading) (p : Place) → headed_failures r p o ≡ [] → IsKept r → IsKept (with_headed r p o)
+headed_keeps : (o : Option HeadedForms) (r : Reading) (p : Place) → headed_failures r p o ≡ [] → IsNameIndex r → IsNameIndex (with_headed r p o)
 headed_keeps None r p h k = k
 headed_keeps (Some x) r p h k =
     let e = none_in (prime_failures x.primed x.place) (known_failures (command_named x.name) r p x.rest) h in
     known_keeps (command_named x.name) r p x.rest e.1 k
 
-form_keeps : (t : Tree) (r : Reading) → form_failures r t ≡ [] → IsKept r → IsKept (with_form r t)
+form_keeps : (t : Tree) (r : Reading) → form_failures r t ≡ [] → IsNameIndex r → IsNameIndex (with_form r t)
 form_keeps (atom p a) r h k = k
 form_keeps (list p ts) r h k = headed_keeps (headed ts) r p h k
 
-forms_keep : (ts : Trees) (r : Reading) → commands_failures r ts ≡ [] → IsKept r → IsKept (reading_after r ts)
+forms_keep : (ts : Trees) (r : Reading) → commands_failures r ts ≡ [] → IsNameIndex r → IsNameIndex (reading_after r ts)
 forms_keep no_trees r h k = k
 forms_keep (tree t ts) r h k =
     let e = none_in (form_failures r t) (commands_failures (with_form r t) ts) h in

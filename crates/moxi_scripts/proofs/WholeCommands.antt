@@ -1,4 +1,4 @@
--- Commands of which no test fails, one behind the other: what they declare is whole over the scope that stands at the end.
+-- Commands of which no test fails, one behind the other: what they declare is complete over the scope that is at the end.
 use Rattle.std.proofs.Common.{◌≡◌, ℕ, true, false, IfOk, Option, None, Some, List, [], ◌∷◌, ◌++◌, map, take, length, refl, sym, ap, ◌∙◌, subst, append_assoc, append-nil, inl, inr}
 use Rattle.std.specs.Prelude.{slice_get}
 use Rattle.std.specs.List.{AllByRecursion}
@@ -18,7 +18,7 @@ use Rattle.moxi_terms.specs.Sorted.{IsScope}
 use Rattle.moxi_terms.specs.Tree.{PlainFunction, sorts_of}
 use Rattle.moxi_terms.specs.View.{ScopeState}
 use Rattle.moxi_term_reading.specs.WellSorted.{HaveKnownSorts, IsWellSorted}
-use Rattle.moxi_term_print.specs.Standing.{Stands}
+use Rattle.moxi_term_print.specs.WellScoped.{IsWellScoped}
 use Rattle.moxi_scripts.specs.declared.parts.CommandName.{CommandName}
 use Rattle.moxi_scripts.specs.declared.parts.CommandName.TheVariants as name
 use Rattle.moxi_scripts.specs.declared.parts.Declared.{Declared}
@@ -29,10 +29,10 @@ use Rattle.moxi_scripts.specs.Declarations.{FunctionForms, body_reading, clash_f
 use Rattle.moxi_scripts.specs.Entries.{entries_failures, entries_of, locals_among, sort_failures, twice_failures, variables_of}
 use Rattle.moxi_scripts.specs.Shapes.{HeadedForms, headed}
 use Rattle.moxi_scripts.specs.Systems.{SystemReading, variables_of_system}
-use Rattle.moxi_scripts.specs.Whole.{IsWholeFunction, before}
+use Rattle.moxi_scripts.specs.Valid.{IsValidFunction, before}
 use Rattle.moxi_scripts.proofs.FunctionLaws.{function_is, none_in, some_fails}
 use Rattle.moxi_scripts.proofs.WholeEntries.{entries_known, locals_known, locals_same, twice_fresh, variables_whole}
-use Rattle.moxi_scripts.proofs.WholeFormulas.{StandOn, TermsStand, no_clash}
+use Rattle.moxi_scripts.proofs.WholeFormulas.{StandOn, TermsAreWellScoped, no_clash}
 use Rattle.moxi_scripts.specs.laws.WholeNames.{fresh_end}
 use Rattle.moxi_scripts.specs.laws.WholeParts.{all_append, all_parts, map_append, no_failure}
 use Rattle.moxi_scripts.specs.laws.WholeScopes.{GrowsTo, IsScopeSoFar, append_cases, grows_enumeration, grows_function, grows_on, grows_same, grows_sort, take_whole, with_enumeration_so_far, with_function_so_far, with_sort_so_far}
@@ -129,9 +129,9 @@ module _ (sorts : SortsAreKnown) (terms : TermsAreSorted) where
 
 -- WHAT IS DECLARED OVER IT
 
--- what is read so far is whole over the scope at the end
+-- what is read so far is valid over the scope at the end
 pub record IsSoFar (s : ScopeState) (r : Reading) : Type 0 where
-  pub functions : (n : ℕ) (f : PlainFunction) → slice_get r.scope.functions n ≡ Some f → IsWholeFunction s n f
+  pub functions : (n : ℕ) (f : PlainFunction) → slice_get r.scope.functions n ≡ Some f → IsValidFunction s n f
   pub systems : AllByRecursion (IsSystemSoFar s) r.systems
   pub names : map (λ (x : SystemReading). x.name) r.systems ≡ r.system_names
   pub differ : are_fresh [] r.system_names ≡ true
@@ -149,14 +149,14 @@ grows_before s t g = record {
   functions_new = tt;
 }
 
-module _ (sorts : SortsAreKnown) (terms : TermsAreSorted) (stand : TermsStand) (on : StandOn) (end : Reading) (untaken : AreUntaken end.scope end.variables) where
+module _ (sorts : SortsAreKnown) (terms : TermsAreSorted) (stand : TermsAreWellScoped) (on : StandOn) (end : Reading) (untaken : AreUntaken end.scope end.variables) where
   command_untaken : (front free : List Declared) (t : Reading) → t.variables ≡ front ++ free → Follows t end → AreUntaken end.scope free
   command_untaken front free t e f =
       let New = λ (d : Declared). is_term_name end.scope d.name ≡ false in
       (all_parts New front free (all_parts New (front ++ free) f.more (subst (AllByRecursion New) (f.variables ∙ ap (λ x. x ++ f.more) e) untaken)).0).1
 
   function_whole : (s : ScopeState) (p : Place) (f : FunctionForms) (r : Sort) → IsScopeSoFar s → GrowsTo s end.scope → IsNewFunction s p f r → twice_failures [] (entries_of s f.parameters) ≡ []
-      → AreUntaken end.scope (entries_of s f.parameters) → IsWholeFunction end.scope (length s.functions) (function_of s f r)
+      → AreUntaken end.scope (entries_of s f.parameters) → IsValidFunction end.scope (length s.functions) (function_of s f r)
   function_whole s p f r k g n twice u =
       let ds = entries_of s f.parameters in
       let front = none_in (entries_failures s f.place f.parameters ++ sort_failures (result_sort s p f)) _ n.parts in
@@ -172,12 +172,12 @@ module _ (sorts : SortsAreKnown) (terms : TermsAreSorted) (stand : TermsStand) (
       let t = (body_reading s f).term in
       record {
         parameters = variables_whole end.scope ds (known_on s end.scope g ds known) (twice_fresh [] ds twice) u;
-        body = subst (λ ls. Stands (let x : Context = record { scope = before end.scope (length s.functions); variables = ls; primes = Refused } in x) [] t r) same
-            (on c (before end.scope (length s.functions)) (grows_before s end.scope g) t r (subst (Stands c [] t) (sym one) w.2));
+        body = subst (λ ls. IsWellScoped (let x : Context = record { scope = before end.scope (length s.functions); variables = ls; primes = Refused } in x) [] t r) same
+            (on c (before end.scope (length s.functions)) (grows_before s end.scope g) t r (subst (IsWellScoped c [] t) (sym one) w.2));
       }
 
   abbrev WholeFunctions : ScopeState → Type 0
-  WholeFunctions s = (n : ℕ) (f : PlainFunction) → slice_get s.functions n ≡ Some f → IsWholeFunction end.scope n f
+  WholeFunctions s = (n : ℕ) (f : PlainFunction) → slice_get s.functions n ≡ Some f → IsValidFunction end.scope n f
 
   functions_step : (r : Reading) (p : Place) (ts : form.Trees) → IsScopeSoFar r.scope → Follows (with_command name.Function r p ts) end → function_failures r.scope r.term_names p ts ≡ [] → WholeFunctions r.scope
       → WholeFunctions (with_read_function r.scope p ts)
@@ -185,11 +185,11 @@ module _ (sorts : SortsAreKnown) (terms : TermsAreSorted) (stand : TermsStand) (
       function_cases (λ (t : ScopeState). GrowsTo t end.scope → WholeFunctions t) r.scope p (function_forms ts) (λ g. w)
       (λ f x e n g m y q. elim (append_cases r.scope.functions (function_of r.scope f x) y m q) [
         | inl a ↦ w m y a.0
-        | inr a ↦ subst (λ y. IsWholeFunction end.scope m y) a.1 (subst (λ m. IsWholeFunction end.scope m (function_of r.scope f x)) (sym a.0) (added f x e n g))
+        | inr a ↦ subst (λ y. IsValidFunction end.scope m y) a.1 (subst (λ m. IsValidFunction end.scope m (function_of r.scope f x)) (sym a.0) (added f x e n g))
       ]) follows.grows
     where
       added : (f : FunctionForms) (x : Sort) → function_forms ts ≡ Some f → IsNewFunction r.scope p f x → GrowsTo (with_function r.scope (function_of r.scope f x)) end.scope
-          → IsWholeFunction end.scope (length r.scope.functions) (function_of r.scope f x)
+          → IsValidFunction end.scope (length r.scope.functions) (function_of r.scope f x)
       added f x e n g =
           let free = none_in (name_failures r.scope r.term_names f) _ (subst (λ o. function_tests r.scope r.term_names p o ≡ []) e h) in
           let twice = none_in (prime_failures f.name.primed f.name.place ++ term_name_tests r.scope r.term_names f.name.name f.name.place) _ free.0 in

@@ -12,7 +12,7 @@ use Rattle.moxi_scripts.specs.Cycles.{all_cycles, all_use_rows, count_uses, cycl
 use Rattle.moxi_scripts.specs.Script.{PlainSystem}
 use Rattle.moxi_scripts.specs.Spelling.{subsystem_of, system_of}
 use Rattle.moxi_scripts.specs.Systems.{SystemReading}
-use Rattle.moxi_scripts.specs.Whole.{NoneContainsItself, all_subsystem_rows, containing_rows, count_subsystems, subsystem_graph, subsystem_rows}
+use Rattle.moxi_scripts.specs.Valid.{NoneContainsItself, all_subsystem_rows, containing_rows, count_subsystems, subsystem_graph, subsystem_rows}
 use Rattle.moxi_scripts.proofs.CycleLaws.{graph_is}
 use Rattle.moxi_scripts.proofs.FunctionLaws.{none_in}
 use Rattle.moxi_scripts.specs.laws.WholeParts.{no_failure}

@@ -28,7 +28,7 @@ use Rattle.moxi_scripts.specs.Declarations.{is_nil}
 use Rattle.moxi_scripts.specs.Entries.{are_entries, entries_failures, entries_of, entry_failures, entry_in, entry_of, entry_tests, known_sort, locals_among, names_with, sort_failures, twice_failures, twice_tests, variable_of, variables_of}
 use Rattle.moxi_scripts.specs.Lists.{all_entries, are_shaped, has_entries, list_shape, listed_entries, listed_failures, lists_failures, lists_in, value_at, entries_tests, entries_among}
 use Rattle.moxi_scripts.specs.Shapes.{NamedForm, misshapen, named, parts_of}
-use Rattle.moxi_scripts.specs.Whole.{AreVariables}
+use Rattle.moxi_scripts.specs.Valid.{AreVariables}
 use Rattle.moxi_scripts.proofs.FunctionLaws.{none_in, some_fails}
 use Rattle.moxi_scripts.specs.laws.WholeNames.{absent_is, and_both, fresh_more}
 use Rattle.moxi_scripts.specs.laws.WholeParts.{all_append, all_map, no_failure, not_false}

@@ -21,26 +21,26 @@ use Rattle.moxi_terms.specs.Sorts.{same_sort}
 use Rattle.moxi_terms.specs.Tree.{Tree, sorts_of}
 use Rattle.moxi_terms.specs.View.{ScopeState}
 use Rattle.moxi_term_reading.specs.WellSorted.{HaveKnownSorts}
-use Rattle.moxi_term_print.specs.Standing.{Stands}
+use Rattle.moxi_term_print.specs.WellScoped.{IsWellScoped}
 use Rattle.moxi_term_print.specs.Terms.{variable_names}
 use Rattle.moxi_scripts.specs.declared.parts.Declared.{Declared}
 use Rattle.moxi_scripts.specs.Declarations.{clash_failures}
 use Rattle.moxi_scripts.specs.Entries.{locals_among, variables_of}
 use Rattle.moxi_scripts.specs.Formulas.{formula_failures, formula_term, term_failures, term_of, true_term}
-use Rattle.moxi_scripts.specs.Whole.{AreVariables, IsFormula}
+use Rattle.moxi_scripts.specs.Valid.{AreVariables, IsFormula}
 use Rattle.moxi_scripts.proofs.FunctionLaws.{none_in, one_sort}
 use Rattle.moxi_scripts.proofs.WholeEntries.{AreKnown, locals_known, locals_same}
 use Rattle.moxi_scripts.specs.laws.WholeNames.{or_parts, other_way}
 use Rattle.moxi_scripts.specs.laws.WholeParts.{no_failure}
 use Rattle.moxi_scripts.specs.laws.WholeScopes.{GrowsTo, new_term}
 
--- a form of which no test fails spells a term that can stand where it stands
-abbrev pub TermsStand : Type 0
-TermsStand = (c : Context) (vars : List Sort) (t : form.Tree) → HaveKnownSorts c.variables vars → (read c [] t).failures ≡ [] → (sort : Sort) × ((read c [] t).sort ≡ Some sort) × Stands c [] (read c [] t).term sort
+-- a form of which no test fails spells a term that can appear where it is
+abbrev pub TermsAreWellScoped : Type 0
+TermsAreWellScoped = (c : Context) (vars : List Sort) (t : form.Tree) → HaveKnownSorts c.variables vars → (read c [] t).failures ≡ [] → (sort : Sort) × ((read c [] t).sort ≡ Some sort) × IsWellScoped c [] (read c [] t).term sort
 
--- a term that can stand in a scope can stand in one that has grown from it
+-- a term that can appear in a scope can appear in one that has grown from it
 abbrev pub StandOn : Type 0
-StandOn = (c : Context) (s : ScopeState) → GrowsTo c.scope s → (t : Tree) (sort : Sort) → Stands c [] t sort → Stands (record { scope = s; variables = c.variables; primes = c.primes }) [] t sort
+StandOn = (c : Context) (s : ScopeState) → GrowsTo c.scope s → (t : Tree) (sort : Sort) → IsWellScoped c [] t sort → IsWellScoped (record { scope = s; variables = c.variables; primes = c.primes }) [] t sort
 
 pub no_clash : (a b : Sort) (p : Place) → clash_failures (Some a) (Some b) p ≡ [] → a ≡ b
 no_clash a b p h = one_sort a b (not_not (same_sort a b) (no_failure _ 5 p h))
@@ -72,7 +72,7 @@ true_stands s vs primes v = (refl, by_first (first_of 0 (locals_of vs) (codes "t
     by_first None e = refl
     by_first (Some f) e = absurd (cc)
 
-module _ (stand : TermsStand) (on : StandOn) (s whole : ScopeState) (grows : GrowsTo s whole) (ds : List Declared) (known : AreKnown s.enumerations ds) where
+module _ (stand : TermsAreWellScoped) (on : StandOn) (s whole : ScopeState) (grows : GrowsTo s whole) (ds : List Declared) (known : AreKnown s.enumerations ds) where
   pub term_stands : (primes : Primes) (t : form.Tree) → term_failures s (locals_among ds) primes t ≡ [] → IsFormula whole (variables_of ds) primes (term_of s (locals_among ds) primes t)
   term_stands primes t h =
       let c : Context = record { scope = s; variables = locals_among ds; primes = primes } in
@@ -80,8 +80,8 @@ module _ (stand : TermsStand) (on : StandOn) (s whole : ScopeState) (grows : Gro
       let e = none_in (read c [] t).failures _ h in
       let r = stand c (sorts_of (variables_of ds)) t (subst (λ ls. HaveKnownSorts ls (sorts_of (variables_of ds))) (sym same) (locals_known (variables_of ds))) e.0 in
       let one : Truth ≡ r.0 = no_clash Truth r.0 (place_in t) (subst (λ o. clash_failures (Some Truth) o (place_in t) ≡ []) r.1 e.1) in
-      subst (λ ls. Stands (let x : Context = record { scope = whole; variables = ls; primes = primes } in x) [] (term_of s (locals_among ds) primes t) Truth) same
-      (on c whole grows (term_of s (locals_among ds) primes t) Truth (subst (Stands c [] (term_of s (locals_among ds) primes t)) (sym one) r.2))
+      subst (λ ls. IsWellScoped (let x : Context = record { scope = whole; variables = ls; primes = primes } in x) [] (term_of s (locals_among ds) primes t) Truth) same
+      (on c whole grows (term_of s (locals_among ds) primes t) Truth (subst (IsWellScoped c [] (term_of s (locals_among ds) primes t)) (sym one) r.2))
 
   pub formula_stands : AreVariables whole (variables_of ds) → (primes : Primes) (o : Option form.Tree) → formula_failures s (locals_among ds) primes o ≡ []
       → IsFormula whole (variables_of ds) primes (formula_term s (locals_among ds) primes o)

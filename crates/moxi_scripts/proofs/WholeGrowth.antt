@@ -1,4 +1,4 @@
--- What a scope that has grown keeps, in the words of terms that can stand in it.
+-- What a scope that has grown keeps, in the words of terms that can appear in it.
 use Rattle.std.proofs.Common.{◌≡◌, ℕ, Bool, true, false, List, [], ◌∷◌, map, refl, subst}
 use Rattle.std.specs.List.{AllByRecursion, list_any}
 use Rattle.std.specs.Str.{bytes_eq}

@@ -20,10 +20,10 @@ use Rattle.moxi_scripts.specs.Formulas.{term_of}
 use Rattle.moxi_scripts.specs.Labels.{FormulaList, FormulaLists, has_name, is_formula_key, is_label, label_tests, labels_after, labels_failures, labels_with, named_tests, no_labels, with_formula, with_named}
 use Rattle.moxi_scripts.specs.Script.{PlainFormula}
 use Rattle.moxi_scripts.specs.Shapes.{NamedForm, misshapen, named}
-use Rattle.moxi_scripts.specs.Whole.{AreFormulas, IsFormula, formula_names}
+use Rattle.moxi_scripts.specs.Valid.{AreFormulas, IsFormula, formula_names}
 use Rattle.moxi_scripts.proofs.FunctionLaws.{none_in, some_fails}
 use Rattle.moxi_scripts.proofs.WholeEntries.{AreKnown}
-use Rattle.moxi_scripts.proofs.WholeFormulas.{StandOn, TermsStand, term_stands}
+use Rattle.moxi_scripts.proofs.WholeFormulas.{StandOn, TermsAreWellScoped, term_stands}
 use Rattle.moxi_scripts.specs.laws.WholeNames.{Absent, absent_append, absent_swap, fresh_between, fresh_end, fresh_more, or_parts}
 use Rattle.moxi_scripts.specs.laws.WholeParts.{all_append, map_append, no_failure}
 use Rattle.moxi_scripts.specs.laws.WholeScopes.{GrowsTo, among_absent}
@@ -99,7 +99,7 @@ with_one s vs k ls f l h g =
     by_key Query x y z = l
     by_key Queries x y z = l
 
-module _ (stand : TermsStand) (on : StandOn) (s whole : ScopeState) (grows : GrowsTo s whole) (ds : List Declared) (known : AreKnown s.enumerations ds) where
+module _ (stand : TermsAreWellScoped) (on : StandOn) (s whole : ScopeState) (grows : GrowsTo s whole) (ds : List Declared) (known : AreKnown s.enumerations ds) where
   abbrev Are : FormulaLists → Type 0
   Are ls = AreLabels whole (variables_of ds) ls
 

@@ -1,4 +1,4 @@
--- A script that forms spell is whole.
+-- A script that forms spell is valid.
 use Rattle.std.proofs.Common.{◌≡◌, Some, List, [], ◌∷◌, ◌++◌, length, refl, sym, ap, ◌∙◌, subst}
 use Rattle.std.specs.List.{AllByRecursion}
 use Rattle.text_core.specs.declared.place.Place.{Place}
@@ -13,11 +13,11 @@ use Rattle.moxi_scripts.specs.Links as links
 use Rattle.moxi_scripts.specs.Script.{PlainScript}
 use Rattle.moxi_scripts.specs.Spelling.{SpellsScript, reading_of, script_with}
 use Rattle.moxi_scripts.specs.Systems.{SystemReading}
-use Rattle.moxi_scripts.specs.Whole.{IsWhole}
+use Rattle.moxi_scripts.specs.Valid.{IsValid}
 use Rattle.moxi_scripts.proofs.FunctionLaws.{none_in}
 use Rattle.moxi_scripts.proofs.WholeCommands.{IsSoFar, SortsAreKnown, TermsAreSorted, forms_go, forms_whole, nothing_so_far, nothing_whole}
 use Rattle.moxi_scripts.proofs.WholeCycles.{AreThere, IsThere, none_contains_itself}
-use Rattle.moxi_scripts.proofs.WholeFormulas.{StandOn, TermsStand}
+use Rattle.moxi_scripts.proofs.WholeFormulas.{StandOn, TermsAreWellScoped}
 use Rattle.moxi_scripts.proofs.WholeLinks.{check_whole, system_names_same, systems_whole, target_found, untaken}
 
 -- each subsystem names a system that is there
@@ -32,9 +32,9 @@ all_there s r i (x ∷ xs) h = let e = none_in (links.uses_failures r.systems r.
         let f = target_found s r.systems r.system_names i.names i.systems u e.0 in
         ((f.number, f.place, f.below), each us e.1)
 
-module _ (sorts : SortsAreKnown) (terms : TermsAreSorted) (stand : TermsStand) (on : StandOn) where
+module _ (sorts : SortsAreKnown) (terms : TermsAreSorted) (stand : TermsAreWellScoped) (on : StandOn) where
   script_whole : (ts : Trees) (end : Place) (c : CheckReading) → (reading_of ts).check ≡ Some c → commands_failures nothing_read ts ≡ [] → links.links_failures (reading_of ts) end ≡ []
-      → cycle_failures (reading_of ts).systems (reading_of ts).system_names ≡ [] → IsWhole (script_with (reading_of ts) c)
+      → cycle_failures (reading_of ts).systems (reading_of ts).system_names ≡ [] → IsValid (script_with (reading_of ts) c)
   script_whole ts end c there h l y =
       let r = reading_of ts in
       let names = r.system_names in
@@ -54,8 +54,8 @@ module _ (sorts : SortsAreKnown) (terms : TermsAreSorted) (stand : TermsStand) (
         check = check_whole r.scope r.systems names i.names i.systems c (i.check c there) (subst (λ o. links.check_failures r.systems names o ≡ []) there q.1);
       }
 
-  pub spelled_whole : (ts : Trees) (end : Place) (s : PlainScript) → SpellsScript ts end s → IsWhole s
+  pub spelled_whole : (ts : Trees) (end : Place) (s : PlainScript) → SpellsScript ts end s → IsValid s
   spelled_whole ts end s h =
       let e = none_in (commands_failures nothing_read ts ++ links.links_failures (reading_of ts) end) _ h.passes in
       let f = none_in (commands_failures nothing_read ts) _ e.0 in
-      subst IsWhole (sym h.script) (script_whole ts end h.check h.there f.0 f.1 e.1)
+      subst IsValid (sym h.script) (script_whole ts end h.check h.there f.0 f.1 e.1)

@@ -32,7 +32,7 @@ use Rattle.moxi_scripts.specs.Lists.{all_entries}
 use Rattle.moxi_scripts.specs.Script.{PlainFormula, PlainSystem, system_at, variables_in}
 use Rattle.moxi_scripts.specs.Spelling.{actual_numbers, check_of, number_or_none, subsystem_of, system_of}
 use Rattle.moxi_scripts.specs.Systems.{SystemReading}
-use Rattle.moxi_scripts.specs.Whole.{AreVariables, FitsSystem, IsFormula, IsWholeCheck, IsWholeQuery, IsWholeSubsystem, IsWholeSystem, check_variables, formula_names}
+use Rattle.moxi_scripts.specs.Valid.{AreVariables, FitsSystem, IsFormula, IsValidCheck, IsValidQuery, IsValidSubsystem, IsValidSystem, check_variables, formula_names}
 use Rattle.moxi_scripts.proofs.FunctionLaws.{none_in, one_sort, some_fails}
 use Rattle.moxi_scripts.specs.laws.ListLaws.{get_right}
 use Rattle.moxi_scripts.proofs.WholeEntries.{AreKnown, all_known, declared_sorts, sorts_same, variables_all, variables_append}
@@ -191,7 +191,7 @@ module _ (s : ScopeState) (rs : List SystemReading) (names : List (List ℕ)) (s
       by_count true e h = (e, h)
       by_count false e h = some_fails (refusal 12 u.list) [] h
 
-  use_whole : (ds : List Declared) (u : Use) → AreKnown s.enumerations ds → IsUse ds u → links.use_failures rs names u ≡ [] → IsWholeSubsystem found_systems (variables_of ds) (subsystem_of names u)
+  use_whole : (ds : List Declared) (u : Use) → AreKnown s.enumerations ds → IsUse ds u → links.use_failures rs names u ≡ [] → IsValidSubsystem found_systems (variables_of ds) (subsystem_of names u)
   use_whole ds u k a h =
       let f = target_found u h in
       let x = f.reading in
@@ -212,13 +212,13 @@ module _ (s : ScopeState) (rs : List SystemReading) (names : List (List ℕ)) (s
           by_get (Some r) e = ap (λ (r : SystemReading). Some r.lists) (same_Some r x e)
 
   uses_whole : (ds : List Declared) (us : List Use) → AreKnown s.enumerations ds → AllByRecursion (IsUse ds) us → links.uses_failures rs names us ≡ []
-      → AllByRecursion (IsWholeSubsystem found_systems (variables_of ds)) (map (subsystem_of names) us)
+      → AllByRecursion (IsValidSubsystem found_systems (variables_of ds)) (map (subsystem_of names) us)
   uses_whole ds [] k a h = tt
   uses_whole ds (u ∷ us) k a h =
       let e = none_in (links.use_failures rs names u) (links.uses_failures rs names us) h in
       (use_whole ds u k a.0 e.0, uses_whole ds us k a.1 e.1)
 
-  system_whole : (r : SystemReading) → IsSystemSoFar s r → links.uses_failures rs names r.uses ≡ [] → IsWholeSystem s found_systems (system_of names r)
+  system_whole : (r : SystemReading) → IsSystemSoFar s r → links.uses_failures rs names r.uses ≡ [] → IsValidSystem s found_systems (system_of names r)
   system_whole r i h =
       let ds = all_entries r.lists in
       let vs : variables_of ds ≡ variables_in (system_of names r) = variables_all r.lists in
@@ -228,10 +228,10 @@ module _ (s : ScopeState) (rs : List SystemReading) (names : List (List ℕ)) (s
         trans = subst (λ ws. IsFormula s ws Allowed r.trans) vs i.trans;
         inv = subst (λ ws. IsFormula s ws Refused r.inv) vs i.inv;
         names = ap (are_fresh []) (map_map (subsystem_of names) (λ (b : Subsystem). b.name) r.uses) ∙ i.names;
-        subsystems = subst (λ ws. AllByRecursion (IsWholeSubsystem found_systems ws) (map (subsystem_of names) r.uses)) vs (uses_whole ds r.uses (all_known s.enumerations r.lists i.known) i.uses h);
+        subsystems = subst (λ ws. AllByRecursion (IsValidSubsystem found_systems ws) (map (subsystem_of names) r.uses)) vs (uses_whole ds r.uses (all_known s.enumerations r.lists i.known) i.uses h);
       }
 
-  pub systems_whole : (xs : List SystemReading) → AllByRecursion (IsSystemSoFar s) xs → links.systems_failures rs names xs ≡ [] → AllByRecursion (IsWholeSystem s found_systems) (map (system_of names) xs)
+  pub systems_whole : (xs : List SystemReading) → AllByRecursion (IsSystemSoFar s) xs → links.systems_failures rs names xs ≡ [] → AllByRecursion (IsValidSystem s found_systems) (map (system_of names) xs)
   systems_whole [] a h = tt
   systems_whole (x ∷ xs) a h =
       let e = none_in (links.uses_failures rs names x.uses) (links.systems_failures rs names xs) h in
@@ -261,11 +261,11 @@ module _ (s : ScopeState) (rs : List SystemReading) (names : List (List ℕ)) (s
       by_get None e = absurd (none-some f.reading e)
       by_get (Some r) e = ap (λ (r : SystemReading). Some r.lists) (same_Some r f.reading e)
 
-  pub check_whole : (c : CheckReading) → IsCheckSoFar s c → links.check_failures rs names (Some c) ≡ [] → IsWholeCheck s found_systems (check_of names c)
+  pub check_whole : (c : CheckReading) → IsCheckSoFar s c → links.check_failures rs names (Some c) ≡ [] → IsValidCheck s found_systems (check_of names c)
   unfolding found_at
   check_whole c i h = by_place (place_of names c.target) refl h
     where
-      by_place : (o : Option ℕ) → place_of names c.target ≡ o → links.checked_failures rs c o ≡ [] → IsWholeCheck s found_systems (check_of names c)
+      by_place : (o : Option ℕ) → place_of names c.target ≡ o → links.checked_failures rs c o ≡ [] → IsValidCheck s found_systems (check_of names c)
       by_place None e h = some_fails (refusal 10 c.target_place) [] h
       by_place (Some j) e h =
           let f = found_at c.target j e in
@@ -291,8 +291,8 @@ module _ (s : ScopeState) (rs : List SystemReading) (names : List (List ℕ)) (s
             };
             queries = record {
               names = i.names;
-              queries = subst (λ n. AllByRecursion (IsWholeQuery n (length ls.currents.formulas) (length ls.reachables.formulas)) c.queries) la
-                  (subst (λ n. AllByRecursion (IsWholeQuery (length ls.assumptions.names) n (length ls.reachables.formulas)) c.queries) lc
-                  (subst (λ n. AllByRecursion (IsWholeQuery (length ls.assumptions.names) (length ls.currents.names) n) c.queries) lr i.queries));
+              queries = subst (λ n. AllByRecursion (IsValidQuery n (length ls.currents.formulas) (length ls.reachables.formulas)) c.queries) la
+                  (subst (λ n. AllByRecursion (IsValidQuery (length ls.assumptions.names) n (length ls.reachables.formulas)) c.queries) lc
+                  (subst (λ n. AllByRecursion (IsValidQuery (length ls.assumptions.names) (length ls.currents.names) n) c.queries) lr i.queries));
             };
           }

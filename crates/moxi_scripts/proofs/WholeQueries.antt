@@ -17,7 +17,7 @@ use Rattle.moxi_scripts.specs.Declarations.{are_symbols}
 use Rattle.moxi_scripts.specs.Labels.{FormulaLists}
 use Rattle.moxi_scripts.specs.QueryReading as queries
 use Rattle.moxi_scripts.specs.Shapes.{NamedForm, misshapen, named, parts_of}
-use Rattle.moxi_scripts.specs.Whole.{IsWholeQuery, query_names}
+use Rattle.moxi_scripts.specs.Valid.{IsValidQuery, query_names}
 use Rattle.moxi_scripts.proofs.FunctionLaws.{none_in, some_fails}
 use Rattle.moxi_scripts.specs.laws.WholeNames.{absent_is, fresh_join, fresh_more, or_both}
 use Rattle.moxi_scripts.specs.laws.WholeParts.{all_append, map_append, no_failure, not_false}
@@ -84,7 +84,7 @@ module _ (ls : FormulaLists) where
   good_query w p k l false a b c d = absurd (cc)
 
   abbrev IsQuery : Query → Type 0
-  IsQuery q = IsWholeQuery (length ls.assumptions.names) (length ls.currents.names) (length ls.reachables.names) q
+  IsQuery q = IsValidQuery (length ls.assumptions.names) (length ls.currents.names) (length ls.reachables.names) q
 
   -- behind these names the forms spell queries with new names
   record AreNext (names : List (List ℕ)) (qs : List Query) (then : List (List ℕ)) : Type 0 where

@@ -10,7 +10,7 @@ use Rattle.moxi_terms.specs.View.{ScopeState}
 use Rattle.moxi_scripts.specs.declared.script.Subsystem.{Subsystem}
 use Rattle.moxi_scripts.specs.Cycles.{nodes_from}
 use Rattle.moxi_scripts.specs.Script.{PlainScript, PlainSystem, variables_in}
-use Rattle.moxi_scripts.specs.Whole.{HasRanks, IsWhole, IsWholeSubsystem, IsWholeSystem, all_subsystem_rows, containing_rows, count_subsystems, subsystem_graph, subsystem_rows}
+use Rattle.moxi_scripts.specs.Valid.{HasRanks, IsValid, IsValidSubsystem, IsValidSystem, all_subsystem_rows, containing_rows, count_subsystems, subsystem_graph, subsystem_rows}
 use Rattle.moxi_scripts.proofs.WholeCycles.{all_rows_long, index_right, rows_below}
 use Rattle.moxi_scripts.specs.laws.WholeNames.{and_both}
 use Rattle.moxi_scripts.specs.laws.WholeParts.{get_below}
@@ -95,21 +95,21 @@ in_nodes start (suc count) (suc t) h =
     (subst (λ k. In (nodes_from (suc start) count) k) (let e : suc start + t ≡ start + suc t = omega arith in e) (in_nodes (suc start) count t (omega arith)))
 
 module _ (s : ScopeState) (all : List PlainSystem) where
-  abbrev AreWhole : List PlainSystem → Type 0
-  AreWhole xs = AllByRecursion (IsWholeSystem s all) xs
+  abbrev AreValid : List PlainSystem → Type 0
+  AreValid xs = AllByRecursion (IsValidSystem s all) xs
 
-  rows_within : (start n : ℕ) (x : PlainSystem) (bs : List Subsystem) → start + length all ≤ n → AllByRecursion (IsWholeSubsystem all (variables_in x)) bs → within n (subsystem_rows start bs) ≡ true
+  rows_within : (start n : ℕ) (x : PlainSystem) (bs : List Subsystem) → start + length all ≤ n → AllByRecursion (IsValidSubsystem all (variables_in x)) bs → within n (subsystem_rows start bs) ≡ true
   rows_within start n x [] h a = refl
   rows_within start n x (b ∷ bs) h a =
       let there : b.system < length all = a.0.there in
       and_both (nat_lt (start + b.system) n && true) (within n (subsystem_rows start bs)) (and_both (nat_lt (start + b.system) n) true (less (start + b.system) n (omega arith)) refl) (rows_within start n x bs h a.1)
 
-  all_rows_within : (start n : ℕ) (xs : List PlainSystem) → start + length all ≤ n → AreWhole xs → within n (all_subsystem_rows start xs) ≡ true
+  all_rows_within : (start n : ℕ) (xs : List PlainSystem) → start + length all ≤ n → AreValid xs → within n (all_subsystem_rows start xs) ≡ true
   all_rows_within start n [] h a = refl
   all_rows_within start n (x ∷ xs) h a =
       all_append n (subsystem_rows start x.subsystems) (all_subsystem_rows start xs) (rows_within start n x x.subsystems h a.0.subsystems) (all_rows_within start n xs h a.1)
 
-  graph_is : AreWhole all → is_graph (subsystem_graph all) ≡ true
+  graph_is : AreValid all → is_graph (subsystem_graph all) ≡ true
   graph_is a =
       let n = length (subsystem_graph all) in
       let front = all_subsystem_rows (count_subsystems all) all in
@@ -157,8 +157,8 @@ each_of : (P : Subsystem → Type 0) (bs : List Subsystem) → ((t : ℕ) (b : S
 each_of P [] f = tt
 each_of P (b ∷ bs) f = (f 0 b refl, each_of P bs (λ t c h. f (suc t) c h))
 
-pub whole_has_ranks : (s : PlainScript) → IsWhole s → HasRanks s.systems
-whole_has_ranks s w = record { rank = λ i. rank g (base + i); falls = λ i x h. each_of (λ (b : Subsystem). rank g (base + b.system) < rank g (base + i)) x.subsystems (λ t b k. falls i x h t b k) }
+pub valid_has_ranks : (s : PlainScript) → IsValid s → HasRanks s.systems
+valid_has_ranks s w = record { rank = λ i. rank g (base + i); falls = λ i x h. each_of (λ (b : Subsystem). rank g (base + b.system) < rank g (base + i)) x.subsystems (λ t b k. falls i x h t b k) }
   where
     xs : List PlainSystem
     xs = s.systems

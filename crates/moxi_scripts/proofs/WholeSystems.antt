@@ -31,10 +31,10 @@ use Rattle.moxi_scripts.specs.Shapes.{HeadedForms}
 use Rattle.moxi_scripts.specs.Systems as systems
 use Rattle.moxi_scripts.specs.Systems.{SystemReading, locals_of, text_entries_in, variables_failures}
 use Rattle.moxi_scripts.specs.Uses.{uses_failures, uses_in}
-use Rattle.moxi_scripts.specs.Whole.{AreVariables, IsFormula, IsWholeQuery, query_names}
+use Rattle.moxi_scripts.specs.Valid.{AreVariables, IsFormula, IsValidQuery, query_names}
 use Rattle.moxi_scripts.proofs.FunctionLaws.{none_in, some_fails}
 use Rattle.moxi_scripts.proofs.WholeEntries.{AreKnown, AreKnownLists, IsKnown, all_known, all_shaped, lists_known, twice_fresh, variables_whole}
-use Rattle.moxi_scripts.proofs.WholeFormulas.{StandOn, TermsStand, formula_stands}
+use Rattle.moxi_scripts.proofs.WholeFormulas.{StandOn, TermsAreWellScoped, formula_stands}
 use Rattle.moxi_scripts.proofs.WholeLabels.{AreLabels, labels_are, nothing_labelled}
 use Rattle.moxi_scripts.specs.laws.WholeNames.{Absent, absent_is}
 use Rattle.moxi_scripts.specs.laws.WholeParts.{all_of, no_failure, not_false}
@@ -63,7 +63,7 @@ pub record IsCheckSoFar (s : ScopeState) (c : CheckReading) : Type 0 where
   pub variables : AreVariables s (variables_of (all_entries c.lists))
   pub labels : AreLabels s (variables_of (all_entries c.lists)) c.labels
   pub names : are_fresh [] (query_names c.queries) ≡ true
-  pub queries : AllByRecursion (IsWholeQuery (length c.labels.assumptions.names) (length c.labels.currents.names) (length c.labels.reachables.names)) c.queries
+  pub queries : AllByRecursion (IsValidQuery (length c.labels.assumptions.names) (length c.labels.currents.names) (length c.labels.reachables.names)) c.queries
 
 pub known_on : (s t : ScopeState) → GrowsTo s t → (ds : List Declared) → AreKnown s.enumerations ds → AreKnown t.enumerations ds
 known_on s t g ds k =
@@ -82,7 +82,7 @@ lists_on s t g l k = record {
   locals_shaped = k.locals_shaped;
 }
 
-module _ (stand : TermsStand) (on : StandOn) (s whole : ScopeState) (grows : GrowsTo s whole) (sorts : (around : Place) (t : form.Tree) → IfOk (sort_reading s around t) (IsSort s.enumerations)) where
+module _ (stand : TermsAreWellScoped) (on : StandOn) (s whole : ScopeState) (grows : GrowsTo s whole) (sorts : (around : Place) (t : form.Tree) → IfOk (sort_reading s around t) (IsSort s.enumerations)) where
   -- the variables of a system or a check
   record HasVariables (command : Command) (ts : form.Trees) : Type 0 where
     pub before : AreKnown s.enumerations (all_entries (lists_in s command ts))

@@ -65,7 +65,7 @@ module _ (g : NodeLists) where
   one_more_step k m r [] w i = (subst (λ n. In (next_of g n) r) (sym w) i, refl)
   one_more_step k m r (s ∷ ss) w i = (w.0, one_more_step s m r ss w.1 i)
 
-  -- a walk on which no node stands twice
+  -- a walk on which no node occurs twice
   record IsShort (k m : ℕ) : Type 0 where
     pub first : ℕ
     pub rest : List ℕ

@@ -12,7 +12,7 @@ use Rattle.moxi_scripts.specs.declared.script.Query.{Query}
 use Rattle.moxi_scripts.specs.Behaviour.{Trace}
 use Rattle.moxi_scripts.specs.Meeting.{Hiddens, all_hold, assumptions_hold, currents_hold, ends_reached, first_failing, is_reached_before}
 use Rattle.moxi_scripts.specs.Script.{PlainFormula, PlainScript}
-use Rattle.moxi_scripts.specs.Whole.{check_variables}
+use Rattle.moxi_scripts.specs.Valid.{check_variables}
 
 -- what stands where no query is
 abbrev pub no_query : Query

@@ -79,7 +79,7 @@ abbrev pub keyword_turn : Command → Option (List ℕ) → Turn → Turn
 keyword_turn command None other = other
 keyword_turn command (Some name) other = key_turn (key_named command name)
 
--- what stands behind a form
+-- what is behind a form
 abbrev pub turn_after : Command → Turn → Tree → Turn
 turn_after command AtKeyword t = keyword_turn command (keyword_of t) AtKeyword
 turn_after command (Behind k) t = AtKeyword
@@ -92,7 +92,7 @@ takes_term Trans = true
 takes_term Inv = true
 takes_term k = false
 
--- the form may stand there
+-- the form may appear there
 abbrev pub turns_start : Turn → Tree → Bool
 turns_start AtKeyword t = is_some (keyword_of t)
 turns_start (Behind k) t = takes_term k || is_list_form t
@@ -137,11 +137,11 @@ abbrev pub value_of : Command → Key → Turn → Trees → Option Tree
 value_of command k turn no_trees = None
 value_of command k turn (tree t ts) = if is_behind k turn then Some t else value_of command k (turn_after command turn t) ts
 
-abbrev pub stands_once : Command → Trees → Key → Bool
-stands_once command ts k = nat_le (count_of command k AtKeyword ts) 1
+abbrev pub occurs_once : Command → Trees → Key → Bool
+occurs_once command ts k = nat_le (count_of command k AtKeyword ts) 1
 
--- the attributes of a command have their shape, and none that stands once stands twice
+-- the attributes of a command have their shape, and none that stands once occurs twice
 abbrev pub shape_holds : Command → Trees → Bool
 shape_holds command ts =
-    turns_fit command AtKeyword ts && (stands_once command ts Input && (stands_once command ts Output && (stands_once command ts Local
-    && (stands_once command ts Init && (stands_once command ts Trans && stands_once command ts Inv)))))
+    turns_fit command AtKeyword ts && (occurs_once command ts Input && (occurs_once command ts Output && (occurs_once command ts Local
+    && (occurs_once command ts Init && (occurs_once command ts Trans && occurs_once command ts Inv)))))

@@ -57,7 +57,7 @@ are_entries (tree t ts) = is_some (named t) && are_entries ts
 abbrev pub names_with : List (List ℕ) → List ℕ → List (List ℕ)
 names_with names name = if is_none (place_of names name) then names ++ name ∷ [] else names
 
--- a name that is declared twice fails where it stands the second time
+-- a name that is declared twice fails where it is the second time
 abbrev pub twice_tests : List (List ℕ) → Declared → List Refusal
 twice_tests names d = fails_if (not (is_none (place_of names d.name))) 9 d.place
 

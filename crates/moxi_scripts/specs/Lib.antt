@@ -20,6 +20,6 @@ pub mod Invariant
 pub mod ScriptView
 pub mod Behaviour
 pub mod Meeting
-pub mod Whole
+pub mod Valid
 pub mod Asking
 pub mod laws

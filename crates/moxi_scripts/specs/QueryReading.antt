@@ -50,7 +50,7 @@ symbols_failures (tree t ts) = symbol_tests (place_in t) (symbol_of t) ++ symbol
 abbrev pub no_names : QueryNames
 no_names = record { assumptions = []; currents = []; reachables = []; known = true; primed = false }
 
--- one or more numbers, none of which stands twice
+-- one or more numbers, none of which occurs twice
 abbrev pub some_distinct : List ℕ → Bool
 some_distinct [] = false
 some_distinct (n ∷ ns) = are_distinct (n ∷ ns)
@@ -111,7 +111,7 @@ abbrev pub forms_among : Option Trees → Trees
 forms_among None = no_trees
 forms_among (Some ts) = ts
 
--- the forms of queries that stand there: `:query` has one, `:queries` a list of them
+-- the forms of queries that are there: `:query` has one, `:queries` a list of them
 abbrev pub query_forms : Turn → Tree → Trees
 query_forms turn t = if is_behind keys.Query turn then tree t no_trees else (if is_behind keys.Queries turn then forms_among (parts_of t) else no_trees)
 

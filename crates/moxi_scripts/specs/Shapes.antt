@@ -6,7 +6,7 @@ use Rattle.moxi_sexpr.specs.Lexing.{refusal}
 use Rattle.moxi_sexpr.specs.Tree.{Tree, atom, list, Trees, no_trees, tree}
 use Rattle.moxi_term_reading.specs.Forms.{place_in, symbol_of, only_of, pair_of}
 
--- a symbol, and what stands behind it
+-- a symbol, and what is behind it
 pub record HeadedForms : Type 0 where
   pub name : List ℕ
   pub primed : Bool

@@ -14,7 +14,7 @@ ghost use Rattle.moxi_scripts.specs.Script.{PlainScript, calls_in, formula_at, p
 ghost use Rattle.moxi_scripts.specs.ScriptView.{plain_script};
 
 use crate::script::{Formulas, Query, Script};
-use crate::whole_laws::spelled_scripts_are_whole;
+use crate::whole_laws::spelled_scripts_are_valid;
 use moxi_terms::{Datum, Env, Term, eval};
 use std::alloc::Global;
 use text_core::{Clause, NoMemory, Numbers};
@@ -41,7 +41,7 @@ pub fn queries_are_met_where_nothing_fails()
 pub fn queries_can_be_asked()
     ensures { (s : PlainScript) → ∥ IsSpelled s ∥₁ → AllByRecursion (CanAsk s) s.check.queries }
 {
-    spelled_scripts_are_whole();
+    spelled_scripts_are_valid();
 }
 
 // Whether the term is true when the check's variables have these values.

@@ -24,4 +24,4 @@ pub use script::{
     Check, Formula, Formulas, Queries, Query, Script, Subsystem, Subsystems, System, Systems,
 };
 pub use trace::MoxiTrace;
-pub use whole_laws::{spelled_scripts_are_whole, whole_systems_have_ranks};
+pub use whole_laws::{spelled_scripts_are_valid, valid_systems_have_ranks};

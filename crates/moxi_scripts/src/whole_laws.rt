@@ -3,17 +3,17 @@ ghost use Rattle.text_core.specs.declared.place.Place.{Place};
 ghost use Rattle.moxi_sexpr.specs.Tree.{Trees};
 ghost use Rattle.moxi_scripts.specs.Script.{PlainScript};
 ghost use Rattle.moxi_scripts.specs.Spelling.{SpellsScript};
-ghost use Rattle.moxi_scripts.specs.Whole.{HasRanks, IsWhole};
+ghost use Rattle.moxi_scripts.specs.Valid.{HasRanks, IsValid};
 
 use moxi_term_print::{read_terms_stand, terms_stand_on};
 use moxi_term_reading::{read_sorts_are_of_the_scope, read_terms_have_sorts};
 
-/// Proves that a script that forms spell is whole.
+/// Proves that a script that forms spell is valid.
 ///
-/// Names are distinct and unambiguous, terms have their sorts and may stand in their places, numbers are in range, and no
+/// Names are distinct and unambiguous, terms have their sorts and may appear in their places, numbers are in range, and no
 /// system contains itself.
-pub fn spelled_scripts_are_whole()
-    ensures { (ts : Trees) (end : Place) (s : PlainScript) → SpellsScript ts end s → IsWhole s }
+pub fn spelled_scripts_are_valid()
+    ensures { (ts : Trees) (end : Place) (s : PlainScript) → SpellsScript ts end s → IsValid s }
 {
     read_sorts_are_of_the_scope();
     read_terms_have_sorts();
@@ -21,7 +21,7 @@ pub fn spelled_scripts_are_whole()
     terms_stand_on();
 }
 
-/// Proves that the systems of a whole script have ranks: each system ranks above the systems that it contains.
-pub fn whole_systems_have_ranks()
-    ensures { (s : PlainScript) → IsWhole s → HasRanks s.systems }
+/// Proves that the systems of a valid script have ranks: each system ranks above the systems that it contains.
+pub fn valid_systems_have_ranks()
+    ensures { (s : PlainScript) → IsValid s → HasRanks s.systems }
 {}

@@ -10,7 +10,7 @@ use Rattle.moxi_sexpr.specs.declared.scan.Spelling.TheVariants as how
 use Rattle.moxi_sexpr.specs.declared.read.TokenKind.TheVariants.{Open, Close, Atom}
 use Rattle.moxi_sexpr.specs.Bytes.{Stops, is_blank}
 use Rattle.text_core.specs.Places.{start}
-use Rattle.moxi_sexpr.specs.Atoms.{is_simple, may_stand, spelled, goes_on, atom_of}
+use Rattle.moxi_sexpr.specs.Atoms.{is_simple, may_appear, spelled, goes_on, atom_of}
 use Rattle.moxi_sexpr.specs.Tree.{Tree, atom, list, Trees, no_trees, tree, depth, depths, unplaced, all_unplaced}
 use Rattle.moxi_sexpr.specs.Lexing.{Token, token, Mark, go, limit, past, Steps, blank, ends, opening, closing, atoms, Lexes, last, more, begin}
 use Rattle.moxi_sexpr.specs.Grammar.{Spells, one, bracketed, SpellsAll, no_forms, forms}
@@ -45,7 +45,7 @@ atom_stops how.Binary rest e = stops_by (goes_on how.Binary) rest e refl refl re
 atom_stops how.Hex rest e = stops_by (goes_on how.Hex) rest e refl refl refl
 atom_stops how.Quote rest e = stops_by (goes_on how.Quote) rest e refl refl refl
 
-word_step : (h : Spelling) (name : List ℕ) (m : Mark) (rest : List ℕ) → IsTrue (may_stand h name) → Ends rest
+word_step : (h : Spelling) (name : List ℕ) (m : Mark) (rest : List ℕ) → IsTrue (may_appear h name) → Ends rest
     → Steps m (spelled h name ++ rest) (go (token m.place (Atom (atom_of h name))) (past m (spelled h name) m.depth) rest)
 word_step h name m rest may e = atoms m (spelled h name ++ rest) h name rest (record { is = refl; may = may; ends = atom_stops h rest e })
 

@@ -123,7 +123,7 @@ standing m b bs e f =
     cond_both (eqb b 41) _ _ P (λ h. let Q : ℕ → Type 0 = λ c. Steps m (c ∷ bs) (behind m (c ∷ bs) (Some (Close, bs))) in subst Q (sym (eqb-true b 41 h)) (front_steps m Close (41 ∷ []) bs (depth_steps m bs m.depth refl))) (λ h.
     atom_steps m b bs (scan_of (b ∷ bs)) e f (eqb-false b 40 g) (eqb-false b 41 h) refl (scan_found (b ∷ bs))))
 
--- a comment's bytes, and what stands behind them
+-- a comment's bytes, and what is behind them
 record Commented (m : Mark) (text : List ℕ) : Type 0 where
   pub free : List ℕ
   pub rest : List ℕ
@@ -227,7 +227,7 @@ pub reaches_along : (text bs rest : List ℕ) (p q : Place) → text ≡ bs ++ r
 reaches_along text bs rest p q e f h =
     subst (λ (x : Place). Reaches x (length rest)) (sym f) (reaches_after bs p rest (subst (λ (x : List ℕ). Reaches p (length x)) e h))
 
--- a token stands at the front, or the text is at its end
+-- a token is at the front, or the text is at its end
 pub steps_at : (m : Mark) (text : List ℕ) (b : ℕ) (bs : List ℕ) (x : Next) → text ≡ b ∷ bs → is_blank b ≡ false → eqb b 59 ≡ false → stands m text ≡ x → Steps m text x
 unfolding next_of
 steps_at m text b bs x is e f h =

@@ -13,7 +13,7 @@ use Rattle.moxi_sexpr.specs.declared.scan.Spelling.TheVariants as how
 use Rattle.moxi_sexpr.specs.declared.read.TokenKind.{TokenKind}
 use Rattle.moxi_sexpr.specs.declared.read.Opened.{Opened}
 use Rattle.moxi_sexpr.specs.Bytes.{is_blank, is_comment_byte}
-use Rattle.moxi_sexpr.specs.Atoms.{may_stand, spelled}
+use Rattle.moxi_sexpr.specs.Atoms.{may_appear, spelled}
 use Rattle.moxi_sexpr.specs.Tree.{Tree, Trees, trees_of, plain}
 use Rattle.moxi_sexpr.specs.Lexing.{Token, token, Mark, Next, finished, go, bad, refusal, past, Steps, blank, comment, Lexes, last, more, Refuses, here, later, begin}
 use Rattle.moxi_sexpr.specs.Grammar.{SpellsAll, SpellsForms, RefusesWith}
@@ -99,8 +99,8 @@ stands_none m (b ∷ bs) h e = ap (behind m (b ∷ bs)) e
 pub lists_long : (os : List Opened) → length (open_lists os) ≡ length os
 lists_long os = length-reverse (map plain_open os) ∙ length-map os plain_open
 
--- something stands before what is behind a token
-pub some_name : (h : Spelling) (name : List ℕ) → IsTrue (may_stand h name) → 0 < length (spelled h name)
+-- something is before what is behind a token
+pub some_name : (h : Spelling) (name : List ℕ) → IsTrue (may_appear h name) → 0 < length (spelled h name)
 some_name (how.Bare primed) [] e = absurd (let f : false ≡ true = e in cc)
 some_name (how.Bare primed) (b ∷ bs) e = omega arith
 some_name (how.Barred primed) name e = omega arith

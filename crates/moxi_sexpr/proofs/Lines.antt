@@ -1,4 +1,4 @@
--- The place behind a token that neither a bar nor a quote begins: it stands in one line.
+-- The place behind a token that neither a bar nor a quote begins: it is in one line.
 use Rattle.std.proofs.Common.{◌≡◌, ◌-◌, ◌≤◌, ◌<◌, ◌+◌, ℕ, zero, suc, Bool, true, false, not, eqb, Option, Some, None, List, [], ◌∷◌, ◌++◌, length, take, drop, get_or, refl, eq-eqb, sym, ap, ◌∙◌, subst, arith}
 use Rattle.std.specs.Prelude.{IsTrue}
 use Rattle.std.specs.List.{list_all}
@@ -12,7 +12,7 @@ use Rattle.moxi_sexpr.specs.declared.read.TokenKind.{TokenKind}
 use Rattle.text_core.specs.Bytes.{is_digit}
 use Rattle.moxi_sexpr.specs.Bytes.{is_symbol_byte, is_binary_digit, is_hex_digit, is_comment_byte, heads}
 use Rattle.text_core.specs.Places.{next_place, after, start}
-use Rattle.moxi_sexpr.specs.Atoms.{prime, may_stand, spelled}
+use Rattle.moxi_sexpr.specs.Atoms.{prime, may_appear, spelled}
 use Rattle.moxi_sexpr.specs.Reading.{run_length, line_ends, last_line, Scan, scan_of, value_of, token_from, token_of, front}
 use Rattle.moxi_sexpr.proofs.Runs.{other_byte, run_all, simple_all, run_passes, front_is}
 use Rattle.moxi_sexpr.proofs.Scanning.{Found, scan_found}
@@ -63,7 +63,7 @@ prime_inner false = refl
 both_inner : (xs ys : List ℕ) → IsInLine xs → IsInLine ys → IsInLine (xs ++ ys)
 both_inner xs ys e f = list_all-append is_inner xs ys ∙ rw (e, f) refl
 
-spelled_inner : (h : Spelling) (name rest : List ℕ) → IsTrue (may_stand h name) → heads 124 (spelled h name ++ rest) ≡ false → heads 34 (spelled h name ++ rest) ≡ false → IsInLine (spelled h name)
+spelled_inner : (h : Spelling) (name rest : List ℕ) → IsTrue (may_appear h name) → heads 124 (spelled h name ++ rest) ≡ false → heads 34 (spelled h name ++ rest) ≡ false → IsInLine (spelled h name)
 spelled_inner (how.Bare primed) name rest e f g = both_inner name (prime primed) (all_inner is_symbol_byte name refl (simple_all name e)) (prime_inner primed)
 spelled_inner (how.Barred primed) name rest e f g = absurd (let h : true ≡ false = f in cc)
 spelled_inner how.Keyword name rest e f g = all_inner is_symbol_byte name refl (simple_all name e)
@@ -72,7 +72,7 @@ spelled_inner how.Binary name rest e f g = all_inner is_binary_digit name refl (
 spelled_inner how.Hex name rest e f g = all_inner is_hex_digit name refl (run_all is_hex_digit name e)
 spelled_inner how.Quote name rest e f g = absurd (let h : true ≡ false = g in cc)
 
--- the token stands in one line, unless a bar or a quote begins it
+-- the token is in one line, unless a bar or a quote begins it
 abbrev InnerBy : List ℕ → Option (TokenKind × List ℕ) → Type 0
 InnerBy text None = Unit {0}
 InnerBy text (Some x) = heads 124 text ≡ false → heads 34 text ≡ false → IsInLine (front text x.1)
@@ -101,7 +101,7 @@ token_along p text rest k e bar quote within =
     let n : length (front text rest) ≡ length text - length rest = omega (arith, length-take (length text - length rest) text) in
     after_line (front text rest) p (subst (InnerBy text) e (inner_token text) bar quote) ∙ ap (along p) n
 
--- a comment stands in one line
+-- a comment is in one line
 pub comment_along : (p : Place) (text : List ℕ) (size : ℕ) → size ≡ run_length is_comment_byte text → size ≤ length text → after p (59 ∷ take (run_length is_comment_byte text) text) ≡ along p (size + 1)
 comment_along p text size e within =
     let n = run_length is_comment_byte text in
@@ -131,7 +131,7 @@ after_is (b ∷ bs) line n offset = after_step (eqb b 10) b bs line n offset ref
 pub end_is : (text : List ℕ) (ends last : ℕ) → ends ≡ line_ends text → last ≡ last_line 0 text → placed (ends + 1) (last + 1) (length text) ≡ after start text
 end_is text ends last e f = any_place _ _ _ _ _ _ (omega arith) (omega arith) (omega arith) ∙ sym (after_is text 1 0 0)
 
--- the last line stands behind an end of a line
+-- the last line is behind an end of a line
 pub last_at : (text : List ℕ) (k n : ℕ) → k < length text → get_or text k 0 ≡ 10 → last_line n text ≡ last_line 0 (drop (suc k) text)
 last_at [] k n h e = absurd (omega arith)
 last_at (b ∷ bs) zero n h e = cond-true _ _ _ (eq-eqb b 10 e)

@@ -11,7 +11,7 @@ use Rattle.moxi_sexpr.specs.declared.scan.Spelling.TheVariants as how
 use Rattle.moxi_sexpr.specs.declared.read.TokenKind.{TokenKind}
 use Rattle.moxi_sexpr.specs.declared.read.TokenKind.TheVariants.{Open, Close, Atom}
 use Rattle.moxi_sexpr.specs.Bytes.{is_symbol_byte, is_barred_byte}
-use Rattle.moxi_sexpr.specs.Atoms.{is_simple, may_stand, spelled, atom_of}
+use Rattle.moxi_sexpr.specs.Atoms.{is_simple, may_appear, spelled, atom_of}
 use Rattle.moxi_sexpr.specs.Tree.{Tree, atom, list, Trees, trees_of, depth, depths}
 use Rattle.moxi_sexpr.specs.Lexing.{Token, token, Mark, Next, finished, go, bad, limit, Steps, blank, comment, ends, unclosed, opening, too_deep, closing, unopened, atoms, stray, Lexes, last, more, Refuses, here, later, begin}
 use Rattle.moxi_sexpr.specs.Grammar.{Spells, one, bracketed, SpellsAll, no_forms, forms, SpellsForms, RefusesWith}
@@ -23,7 +23,7 @@ use Rattle.moxi_sexpr.proofs.Laws.{next_steps}
 use Rattle.moxi_sexpr.proofs.Forming.{goes, sound}
 use Rattle.moxi_sexpr.proofs.Leading.{some_name, ended_none}
 
--- a byte of a simple symbol may stand in bars
+-- a byte of a simple symbol may appear in bars
 barred_byte : (b : ℕ) → is_symbol_byte b ≡ true → is_barred_byte b ≡ true
 barred_byte b e =
     let bar : eqb b 124 ≡ false = other_byte is_symbol_byte b 124 e refl in
@@ -37,12 +37,12 @@ symbol_barred (b ∷ bs) e =
     let first = barred_byte b both.0 in
     rw first (symbol_barred bs both.1)
 
--- a name that may stand in bars can be spelled, in bars or without
-can_symbol : (t : Bool) (name : List ℕ) (primed : Bool) → (t ≡ true → is_simple name ≡ true) → list_all is_barred_byte name ≡ true → IsTrue (may_stand (cond t (how.Bare primed) (how.Barred primed)) name)
+-- a name that may appear in bars can be spelled, in bars or without
+can_symbol : (t : Bool) (name : List ℕ) (primed : Bool) → (t ≡ true → is_simple name ≡ true) → list_all is_barred_byte name ≡ true → IsTrue (may_appear (cond t (how.Bare primed) (how.Barred primed)) name)
 can_symbol true name primed simple barred = simple refl
 can_symbol false name primed simple barred = barred
 
-can_atom : (h : Spelling) (name : List ℕ) → IsTrue (may_stand h name) → CanBeSpelled (atom_of h name)
+can_atom : (h : Spelling) (name : List ℕ) → IsTrue (may_appear h name) → CanBeSpelled (atom_of h name)
 can_atom (how.Bare primed) name e =
     can_symbol (is_simple name && not (is_among name reserved_words)) name primed (λ t. (and_parts (is_simple name) (not (is_among name reserved_words)) t).0) (symbol_barred name (simple_all name e))
 can_atom (how.Barred primed) name e = can_symbol (is_simple name && not (is_among name reserved_words)) name primed (λ t. (and_parts (is_simple name) (not (is_among name reserved_words)) t).0) e

@@ -54,7 +54,7 @@ pub simple_starts : (s rest : List ℕ) → is_simple s ≡ true → starts_simp
 simple_starts [] rest e = absurd (let g : false ≡ true = e in cc)
 simple_starts (b ∷ bs) rest e = (and_parts (starts_simple (b ∷ bs)) (list_all is_symbol_byte (b ∷ bs)) e).0
 
--- what the run is, and what stands behind it
+-- what the run is, and what is behind it
 all_step : (t : Bool) (p : ℕ → Bool) (b : ℕ) (bs : List ℕ) (n : ℕ) → p b ≡ t → list_all p (take n bs) ≡ true → list_all p (take (cond t (suc n) 0) (b ∷ bs)) ≡ true
 all_step true p b bs n e ih = rw e ih
 all_step false p b bs n e ih = refl

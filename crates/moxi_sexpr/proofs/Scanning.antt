@@ -9,7 +9,7 @@ use Rattle.moxi_sexpr.specs.declared.scan.Spelling.TheVariants as how
 use Rattle.moxi_sexpr.specs.declared.read.TokenKind.TheVariants.{Atom}
 use Rattle.text_core.specs.Bytes.{is_digit}
 use Rattle.moxi_sexpr.specs.Bytes.{Stops, is_symbol_byte, is_binary_digit, is_hex_digit, is_barred_byte}
-use Rattle.moxi_sexpr.specs.Atoms.{is_run, is_simple, starts_simple, doubled, prime, may_stand, spelled, goes_on, atom_of}
+use Rattle.moxi_sexpr.specs.Atoms.{is_run, is_simple, starts_simple, doubled, prime, may_appear, spelled, goes_on, atom_of}
 use Rattle.moxi_sexpr.specs.Lexing.{IsSpelled}
 use Rattle.moxi_sexpr.specs.Reading.{gap_length, run_length, Scan, run_of, simple_of, with_prime, bare_of, closed_by_bar, barred_of, quote_length, quoted, quote_of, digits_of, scan_of, undoubled, value_of, token_from, token_of}
 use Rattle.moxi_sexpr.proofs.Runs.{other_byte, run_take, run_drop, run_of_is, simple_run, simple_all, simple_starts, run_passes, run_stops, run_runs}
@@ -136,7 +136,7 @@ moved_text : (text text' : List ℕ) (h : Spelling) (name rest : List ℕ) → t
 moved_text text text' h name rest e r = subst (λ (x : List ℕ). Read x h name rest) (sym e) r
 
 -- what is spelled is read
-read_how : (h : Spelling) (name rest : List ℕ) → IsTrue (may_stand h name) → Stops (goes_on h) rest → Read (spelled h name ++ rest) h name rest
+read_how : (h : Spelling) (name rest : List ℕ) → IsTrue (may_appear h name) → Stops (goes_on h) rest → Read (spelled h name ++ rest) h name rest
 read_how (how.Bare primed) name rest e f = moved_text _ _ (how.Bare primed) name rest (append_assoc name (prime primed) rest) (bare_read name primed rest e f)
 read_how (how.Barred primed) name rest e f =
     moved_text (124 ∷ ((name ++ 124 ∷ prime primed) ++ rest)) (124 ∷ (name ++ 124 ∷ (prime primed ++ rest))) (how.Barred primed) name rest
@@ -157,7 +157,7 @@ abbrev pub Found : List ℕ → Scan → Type 0
 Found text None = Unit {0}
 Found text (Some x) = IsSpelled text x.0 (value_of x.0 x.1) x.2
 
-spell : (text : List ℕ) (h : Spelling) (name rest : List ℕ) → text ≡ spelled h name ++ rest → IsTrue (may_stand h name) → Stops (goes_on h) rest → IsSpelled text h name rest
+spell : (text : List ℕ) (h : Spelling) (name rest : List ℕ) → text ≡ spelled h name ++ rest → IsTrue (may_appear h name) → Stops (goes_on h) rest → IsSpelled text h name rest
 spell text h name rest e f g = record { is = e; may = f; ends = g }
 
 cut : (n : ℕ) (text : List ℕ) → text ≡ take n text ++ drop n text

@@ -34,7 +34,7 @@ abbrev pub Scans : Option (Spelling × Bor (List ℕ) × Bor (List ℕ)) → Sca
 Scans None o = o ≡ None
 Scans (Some x) o = o ≡ Some (x.0, x.1.now, x.2.now)
 
--- one or more bytes stand before the rest
+-- one or more bytes are before the rest
 pub record IsBehind (text rest : List ℕ) : Type 0 where
   pub bytes : List ℕ
   pub is : text ≡ bytes ++ rest

@@ -30,15 +30,15 @@ abbrev pub prime : Bool → List ℕ
 prime true = 39 ∷ []
 prime false = []
 
--- the name may stand in this spelling
-abbrev pub may_stand : Spelling → List ℕ → Bool
-may_stand (how.Bare primed) name = is_simple name
-may_stand (how.Barred primed) name = list_all is_barred_byte name
-may_stand how.Keyword name = is_simple name
-may_stand how.Numeral name = is_run is_digit name
-may_stand how.Binary name = is_run is_binary_digit name
-may_stand how.Hex name = is_run is_hex_digit name
-may_stand how.Quote name = true
+-- the name may appear in this spelling
+abbrev pub may_appear : Spelling → List ℕ → Bool
+may_appear (how.Bare primed) name = is_simple name
+may_appear (how.Barred primed) name = list_all is_barred_byte name
+may_appear how.Keyword name = is_simple name
+may_appear how.Numeral name = is_run is_digit name
+may_appear how.Binary name = is_run is_binary_digit name
+may_appear how.Hex name = is_run is_hex_digit name
+may_appear how.Quote name = true
 
 -- the bytes that spell the name
 abbrev pub spelled : Spelling → List ℕ → List ℕ

@@ -1,4 +1,4 @@
--- Bytes by what they may stand in (SMT-LIB 2.6, section 3.1).
+-- Bytes by what they may appear in (SMT-LIB 2.6, section 3.1).
 use Rattle.std.specs.Prelude.{◌≡◌, ◌==◌, ℕ, Bool, false, not, ◌&&◌, ◌||◌, nat_le, List, [], ◌∷◌, codes}
 use Rattle.std.specs.List.{list_any}
 use Rattle.text_core.specs.Bytes.{is_digit}

@@ -9,7 +9,7 @@ use Rattle.moxi_sexpr.specs.declared.read.TokenKind.{TokenKind}
 use Rattle.moxi_sexpr.specs.declared.read.TokenKind.TheVariants.{Open, Close, Atom}
 use Rattle.moxi_sexpr.specs.Bytes.{is_blank, ends_line, Stops}
 use Rattle.text_core.specs.Places.{after, start}
-use Rattle.moxi_sexpr.specs.Atoms.{may_stand, spelled, goes_on, atom_of}
+use Rattle.moxi_sexpr.specs.Atoms.{may_appear, spelled, goes_on, atom_of}
 
 -- a bracket or an atom, and its place
 pub record Token : Type 0 where
@@ -41,10 +41,10 @@ refusal number place = record { kind = M number; place = place }
 abbrev pub past : Mark → List ℕ → ℕ → Mark
 past m bytes depth = record { place = after m.place bytes; depth = depth }
 
--- an atom spelled so stands at the front, and ends before the rest
+-- an atom spelled so is at the front, and ends before the rest
 pub record IsSpelled (text : List ℕ) (h : Spelling) (name rest : List ℕ) : Type 0 where
   pub is : text ≡ spelled h name ++ rest
-  pub may : IsTrue (may_stand h name)
+  pub may : IsTrue (may_appear h name)
   pub ends : Stops (goes_on h) rest
 
 -- Blanks, comments up to the end of their line, brackets, and atoms as long as they can be.

@@ -36,7 +36,7 @@ abbrev pub with_rest : List ℕ → Move → Turn
 with_rest rest (stop why) = stops why
 with_rest rest (onward k done) = goes_to rest k done
 
--- what the token at the front of a text, if one stands there, leads to
+-- what the token at the front of a text, if one is there, leads to
 abbrev pub turn_of : Place → Option (TokenKind × List ℕ) → List Frame → List Tree → Turn
 turn_of place None k done = stops (refusal 1 place)
 turn_of place (Some x) k done = with_rest x.1 (step x.0 place k done)

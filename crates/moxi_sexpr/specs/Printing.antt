@@ -8,7 +8,7 @@ use Rattle.moxi_sexpr.specs.declared.form.Atom.{Atom}
 use Rattle.moxi_sexpr.specs.declared.form.Atom.TheVariants as atoms
 use Rattle.moxi_sexpr.specs.declared.scan.Spelling.{Spelling}
 use Rattle.moxi_sexpr.specs.declared.scan.Spelling.TheVariants as how
-use Rattle.moxi_sexpr.specs.Atoms.{is_simple, may_stand, spelled}
+use Rattle.moxi_sexpr.specs.Atoms.{is_simple, may_appear, spelled}
 use Rattle.moxi_sexpr.specs.Tree.{Tree, atom, list, Trees, no_trees, tree, all_unplaced}
 use Rattle.moxi_sexpr.specs.Grammar.{SpellsForms}
 
@@ -48,7 +48,7 @@ name_of (atoms.Quote name) = name
 abbrev pub printed_atom : Atom → List ℕ
 printed_atom a = spelled (spelling_of a) (name_of a)
 
--- single blanks between the parts of a list, none inside a bracket; `before` stands before the first part
+-- single blanks between the parts of a list, none inside a bracket; `before` is before the first part
 abbrev mutual
   pub printed : Tree → List ℕ
   printed (atom p a) = printed_atom a
@@ -65,7 +65,7 @@ printed_forms (tree t ts) = printed t ++ 10 ∷ printed_forms ts
 
 -- each atom can be spelled as its kind asks
 abbrev pub CanBeSpelled : Atom → Type 0
-CanBeSpelled a = IsTrue (may_stand (spelling_of a) (name_of a))
+CanBeSpelled a = IsTrue (may_appear (spelling_of a) (name_of a))
 
 abbrev mutual
   pub IsPrintable : Tree → Type 0

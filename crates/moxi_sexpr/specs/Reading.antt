@@ -29,7 +29,7 @@ abbrev pub run_length : (ℕ → Bool) → List ℕ → ℕ
 run_length p [] = 0
 run_length p (b ∷ bs) = if p b then suc (run_length p bs) else 0
 
--- a spelling, the bytes between its signs, and what stands behind it
+-- a spelling, the bytes between its signs, and what is behind it
 abbrev pub Scan : Type 0
 Scan = Option (Spelling × List ℕ × List ℕ)
 
@@ -51,7 +51,7 @@ with_prime h raw rest = Some (h (has_prime rest), raw, past_prime rest)
 abbrev pub bare_of : List ℕ → Scan
 bare_of text = if starts_simple text then with_prime how.Bare (take (run_length is_symbol_byte text) text) (drop (run_length is_symbol_byte text) text) else None
 
--- the symbol at the front of a text that begins with a simple symbol, and what stands behind it
+-- the symbol at the front of a text that begins with a simple symbol, and what is behind it
 abbrev pub symbol_of : List ℕ → form.Atom
 symbol_of text = atoms.Symbol (take (run_length is_symbol_byte text) text) (has_prime (drop (run_length is_symbol_byte text) text))
 
@@ -94,7 +94,7 @@ undoubled skip [] = []
 undoubled true (b ∷ bs) = undoubled false bs
 undoubled false (b ∷ bs) = b ∷ undoubled (b == 34) bs
 
--- the name of which these bytes stand between the signs
+-- the name of which these bytes are between the signs
 abbrev pub value_of : Spelling → List ℕ → List ℕ
 value_of how.Quote raw = undoubled false raw
 value_of (how.Bare primed) raw = raw
@@ -108,7 +108,7 @@ abbrev pub token_from : Scan → Option (TokenKind × List ℕ)
 token_from None = None
 token_from (Some x) = Some (Atom (atom_of x.0 (value_of x.0 x.1)), x.2)
 
--- the token at the front of a text, and what stands behind it
+-- the token at the front of a text, and what is behind it
 abbrev pub token_of : List ℕ → Option (TokenKind × List ℕ)
 token_of [] = None
 token_of (b ∷ bs) = if b == 40 then Some (Open, bs) else (if b == 41 then Some (Close, bs) else token_from (scan_of (b ∷ bs)))
@@ -118,7 +118,7 @@ abbrev pub line_ends : List ℕ → ℕ
 line_ends [] = 0
 line_ends (b ∷ bs) = if b == 10 then suc (line_ends bs) else line_ends bs
 
--- how many bytes stand behind the last end of a line, or n more where no line ends
+-- how many bytes are behind the last end of a line, or n more where no line ends
 abbrev pub last_line : ℕ → List ℕ → ℕ
 last_line n [] = n
 last_line n (b ∷ bs) = if b == 10 then last_line 0 bs else last_line (suc n) bs

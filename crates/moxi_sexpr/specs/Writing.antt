@@ -1,14 +1,14 @@
--- Texts that write forms with single blanks, each atom in any spelling that it may stand in.
+-- Texts that write forms with single blanks, each atom in any spelling that it may appear in.
 use Rattle.std.specs.Prelude.{ℕ, IsTrue, List, [], ◌∷◌, ◌++◌}
 use Rattle.text_core.specs.declared.place.Place.{Place}
 use Rattle.moxi_sexpr.specs.declared.scan.Spelling.{Spelling}
-use Rattle.moxi_sexpr.specs.Atoms.{may_stand, spelled, atom_of}
+use Rattle.moxi_sexpr.specs.Atoms.{may_appear, spelled, atom_of}
 use Rattle.moxi_sexpr.specs.Tree.{Tree, atom, list, Trees, no_trees, tree}
 
 -- an atom in a spelling, or parts between brackets
 mutual
   pub data Writes : Tree → List ℕ → Type 0 where
-    word : (p : Place) (h : Spelling) (name : List ℕ) → IsTrue (may_stand h name) → Writes (atom p (atom_of h name)) (spelled h name)
+    word : (p : Place) (h : Spelling) (name : List ℕ) → IsTrue (may_appear h name) → Writes (atom p (atom_of h name)) (spelled h name)
     brackets : {ts : Trees} {body : List ℕ} (p : Place) → WritesParts ts body → Writes (list p ts) (40 ∷ (body ++ 41 ∷ []))
 
   -- parts with a blank between two

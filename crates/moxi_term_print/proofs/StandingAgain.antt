@@ -9,7 +9,7 @@ use Rattle.moxi_term_reading.specs.WellSorted.{HaveKnownSorts}
 use Rattle.moxi_term_print.specs.Shown.{Shows}
 use Rattle.moxi_term_print.specs.Terms.{shown_term}
 use Rattle.moxi_term_print.specs.StandingGrows.{Grows, in_scope}
-use Rattle.moxi_term_print.specs.StandingReads.{whole}
+use Rattle.moxi_term_print.specs.WellScopedReads.{whole}
 use Rattle.moxi_term_print.proofs.StandingGrow.{stands_on}
 use Rattle.moxi_term_print.proofs.StandingRead.{term_read}
 use Rattle.moxi_term_print.proofs.StandingStand.{read_stands}

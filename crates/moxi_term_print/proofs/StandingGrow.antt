@@ -30,7 +30,7 @@ use Rattle.moxi_terms.specs.Meanings.{head_named, value_named}
 use Rattle.moxi_terms.proofs.PlaceLaws.{place_within, get_front}
 use Rattle.moxi_term_reading.specs.laws.SortedParts.{constant_is}
 use Rattle.moxi_term_print.specs.Terms.{name_at, constants_or_none, constant_name, operator_word, truth_word}
-use Rattle.moxi_term_print.specs.Standing.{bound_locals, StandsValue, StandsOperator, StandsCall, Stands, StandEach}
+use Rattle.moxi_term_print.specs.WellScoped.{bound_locals, IsWellScopedValue, IsKnownOperator, IsWellScopedCall, IsWellScoped, AreWellScoped}
 use Rattle.moxi_term_print.specs.StandingGrows.{Grows, in_scope}
 use Rattle.moxi_term_print.specs.laws.StandingPlaces.{place_front, place_neither}
 use Rattle.moxi_terms.proofs.ScopeLaws.{numbered_long}
@@ -203,7 +203,7 @@ module _ (s t : ScopeState) (g : Grows s t) where
       by_place (Some n) p k =
           ap (head_by t name) (name_kept name n p) ∙ ap (λ o. or_else (reading.head_call n o) (option_map heads.Operator (operator_named name))) (function_found name n p) ∙ k
 
-  operator_kept : (o : TermOp) → StandsOperator s o → StandsOperator t o
+  operator_kept : (o : TermOp) → IsKnownOperator s o → IsKnownOperator t o
   operator_kept (op.Extract high low) h = h
   operator_kept (op.ZeroExtend n) h = h
   operator_kept (op.SignExtend n) h = h
@@ -276,19 +276,19 @@ module _ (c : Context) (t : ScopeState) (g : Grows c.scope t) where
       let after = or_else (value_named t name) (reading.call_of reading.bare_call t.functions (place_of (function_names t) name)) in
       or_kept here (or_else declared before) (or_else declared after) m (or_kept declared before after m (λ e. scope_kept c.scope t g name m (value_named c.scope name) refl e)) e
 
-  value_on : (bounds : List Local) (d : Datum) (s : Sort) → StandsValue c bounds d s → StandsValue (in_scope c t) bounds d s
+  value_on : (bounds : List Local) (d : Datum) (s : Sort) → IsWellScopedValue c bounds d s → IsWellScopedValue (in_scope c t) bounds d s
   value_on bounds (datum.Truth b) s h = (h.0, meaning_kept bounds (truth_word b) _ h.1)
   value_on bounds (datum.Bits w) s h = h
   value_on bounds (datum.Constant n i) s h =
       let l : n < length c.scope.enumerations = subst (Within c.scope) h.1 (meaning_within c bounds (constant_name c.scope n i)) in
       (h.0, ap (meaning_of (in_scope c t) bounds) (constant_name_kept c.scope t g n i l) ∙ meaning_kept bounds (constant_name c.scope n i) _ h.1)
 
-  call_on : (bounds : List Local) (n : ℕ) (f : PlainFunction) (ss : List Sort) → StandsCall c bounds n f ss → StandsCall (in_scope c t) bounds n f ss
+  call_on : (bounds : List Local) (n : ℕ) (f : PlainFunction) (ss : List Sort) → IsWellScopedCall c bounds n f ss → IsWellScopedCall (in_scope c t) bounds n f ss
   call_on bounds n f [] h = meaning_kept bounds f.name _ h
   call_on bounds n f (s ∷ ss) h = (head_kept c.scope t g f.name _ h.0, h.1, h.2)
 
   mutual
-    pub stands_on : (bounds : List Local) (u : Tree) (s : Sort) → Stands c bounds u s → Stands (in_scope c t) bounds u s
+    pub stands_on : (bounds : List Local) (u : Tree) (s : Sort) → IsWellScoped c bounds u s → IsWellScoped (in_scope c t) bounds u s
     stands_on bounds (constant d) s h = value_on bounds d s h
     stands_on bounds (variable v primed) s h = (meaning_kept bounds _ _ h.0, h.1)
     stands_on bounds (bound i) s h = meaning_kept bounds _ _ h
@@ -297,7 +297,7 @@ module _ (c : Context) (t : ScopeState) (g : Grows c.scope t) where
     stands_on bounds (call n us) s h =
         (h.0, function_kept c.scope t g n h.0 h.1, h.2, each_on bounds us (sorts_of h.0.parameters) h.3, call_on bounds n h.0 (sorts_of h.0.parameters) h.4)
 
-    each_on : (bounds : List Local) (us : Trees) (ss : List Sort) → StandEach c bounds us ss → StandEach (in_scope c t) bounds us ss
+    each_on : (bounds : List Local) (us : Trees) (ss : List Sort) → AreWellScoped c bounds us ss → AreWellScoped (in_scope c t) bounds us ss
     each_on bounds no_trees [] h = tt
     each_on bounds no_trees (s ∷ ss) h = absurd h
     each_on bounds (tree u us) [] h = absurd h

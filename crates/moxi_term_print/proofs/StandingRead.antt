@@ -1,4 +1,4 @@
--- What is printed of a term that can stand in its place is read as this term, by induction over the term.
+-- What is printed of a term that can appear in its place is read as this term, by induction over the term.
 use Rattle.std.proofs.Common.{◌≡◌, ℕ, zero, suc, ◌<◌, Bool, true, false, cond, eqb, List, [], ◌∷◌, ◌++◌, map, length, Option, None, Some, Ok, Err, refl, sym, ap, ◌∙◌, subst, arith}
 use Rattle.std.specs.List.{list_all}
 use Rattle.std.specs.Prelude.{slice_get, codes, decimal}
@@ -42,8 +42,8 @@ use Rattle.moxi_terms.specs.Meanings.{head_named}
 use Rattle.moxi_terms.proofs.SortLaws.{taken}
 use Rattle.moxi_term_print.specs.Shown.{Shown, word, part, group, Showns, no_showns, shown, Shows, ShowEach}
 use Rattle.moxi_term_print.specs.Terms.{name_at, constant_name, symbol, numeral, unary_word, binary_word, operator_word, shown_operator, truth_word, shown_value, shown_call, shown_term, shown_terms, shown_bindings}
-use Rattle.moxi_term_print.specs.Standing.{bound_locals, StandsValue, StandsPrime, StandsOperator, StandsCall, Stands, StandEach}
-use Rattle.moxi_term_print.specs.StandingReads.{whole}
+use Rattle.moxi_term_print.specs.WellScoped.{bound_locals, IsWellScopedValue, IsAllowedPrime, IsKnownOperator, IsWellScopedCall, IsWellScoped, AreWellScoped}
+use Rattle.moxi_term_print.specs.WellScopedReads.{whole}
 use Rattle.moxi_term_print.proofs.StandingNumbers.{word_again, index_again}
 use Rattle.moxi_term_print.specs.laws.StandingShapes as shape
 use Rattle.moxi_term_print.proofs.SortedTerms.{same_self}
@@ -63,7 +63,7 @@ word_read c bounds f name m t s e g h =
     let a = shape.is_word f name h in
     ap (read c bounds) a.1 ∙ ap (reading.named_reading c.primes a.0 false) e ∙ g a.0
 
-value_read : (c : Context) (bounds : List Local) (d : Datum) (s : Sort) (f : form.Tree) → StandsValue c bounds d s → Shows f (shown_value c.scope d) → read c bounds f ≡ whole (constant d) s
+value_read : (c : Context) (bounds : List Local) (d : Datum) (s : Sort) (f : form.Tree) → IsWellScopedValue c bounds d s → Shows f (shown_value c.scope d) → read c bounds f ≡ whole (constant d) s
 value_read c bounds (datum.Truth b) s f h g =
     word_read c bounds f (truth_word b) _ (constant (datum.Truth b)) Truth h.1 (λ p. refl) g ∙ ap (whole (constant (datum.Truth b))) (sym h.0)
 value_read c bounds (datum.Bits w) s f h g =
@@ -72,11 +72,11 @@ value_read c bounds (datum.Bits w) s f h g =
 value_read c bounds (datum.Constant n i) s f h g =
     named_read c bounds f (constant_name c.scope n i) false _ (constant (datum.Constant n i)) (Choice n) h.1 (λ p. refl) g ∙ ap (whole (constant (datum.Constant n i))) (sym h.0)
 
-no_primes : (primes : Primes) (primed : Bool) (p : Place) → StandsPrime primes primed → reading.variable_primes primes primed p ≡ []
+no_primes : (primes : Primes) (primed : Bool) (p : Place) → IsAllowedPrime primes primed → reading.variable_primes primes primed p ≡ []
 no_primes Allowed primed p h = refl
 no_primes Refused primed p h = ap (λ b. reading.prime_failures b p) h
 
-variable_read : (c : Context) (bounds : List Local) (v : ℕ) (primed : Bool) (s : Sort) (f : form.Tree) → Stands c bounds (variable v primed) s
+variable_read : (c : Context) (bounds : List Local) (v : ℕ) (primed : Bool) (s : Sort) (f : form.Tree) → IsWellScoped c bounds (variable v primed) s
     → Shows f (part (atoms.Symbol (name_at (names_of c.variables) v) primed)) → read c bounds f ≡ whole (variable v primed) s
 variable_read c bounds v primed s f h g =
     named_read c bounds f (name_at (names_of c.variables) v) primed _ (variable v primed) s h.0 (λ p. ap (reading.checked_term (variable v primed) (Some s)) (no_primes c.primes primed p h.1)) g
@@ -156,7 +156,7 @@ sign_head p q n ts h g =
     ap (reading.symbol_head p q (Some (codes "sign_extend", false))) (a.1 ∙ ap (λ t. form.tree t form.no_trees) u.1)
     ∙ ap (λ n. Ok (heads.Operator (op.SignExtend n))) (index_again n h)
 
-operator_head : (c : Context) (p : Place) (o : TermOp) (f : form.Tree) → StandsOperator c.scope o → Shows f (shown_operator o) → IsHead c p f (heads.Operator o)
+operator_head : (c : Context) (p : Place) (o : TermOp) (f : form.Tree) → IsKnownOperator c.scope o → Shows f (shown_operator o) → IsHead c p f (heads.Operator o)
 operator_head c p (op.Extract high low) f h g = indexed_head c p f (codes "extract") _ _ g (λ q ts e. extract_head p q high low ts h.0 h.1 e)
 operator_head c p (op.ZeroExtend n) f h g = indexed_head c p f (codes "zero_extend") _ _ g (λ q ts e. zero_head p q n ts h e)
 operator_head c p (op.SignExtend n) f h g = indexed_head c p f (codes "sign_extend") _ _ g (λ q ts e. sign_head p q n ts h e)
@@ -171,7 +171,7 @@ trees_back : (us : Trees) → trees_of (list_of us) ≡ us
 trees_back no_trees = refl
 trees_back (tree t us) = ap (tree t) (trees_back us)
 
-each_long : (c : Context) (bounds : List Local) (us : Trees) (ss : List Sort) → StandEach c bounds us ss → length (list_of us) ≡ length ss
+each_long : (c : Context) (bounds : List Local) (us : Trees) (ss : List Sort) → AreWellScoped c bounds us ss → length (list_of us) ≡ length ss
 each_long c bounds no_trees [] h = refl
 each_long c bounds no_trees (s ∷ ss) h = absurd h
 each_long c bounds (tree t us) [] h = absurd h
@@ -205,7 +205,7 @@ application_read c bounds p f fs h us ss s i e a b =
 
 -- what an application of an operator reads, where its arguments are read
 operator_read : (c : Context) (bounds : List Local) (o : TermOp) (us : Trees) (xs : Showns) (ss : List Sort) (s : Sort) (f : form.Tree)
-    → ((fs : form.Trees) → ShowEach fs xs → read_all c bounds fs ≡ all_read us ss) → StandEach c bounds us ss → op_sort o ss ≡ Ok s → StandsOperator c.scope o
+    → ((fs : form.Trees) → ShowEach fs xs → read_all c bounds fs ≡ all_read us ss) → AreWellScoped c bounds us ss → op_sort o ss ≡ Ok s → IsKnownOperator c.scope o
     → Shows f (group (shown (shown_operator o) xs)) → read c bounds f ≡ whole (apply o us) s
 operator_read c bounds o us xs ss s f ih each sorted stands g =
     let a = shape.is_group f _ g in
@@ -235,7 +235,7 @@ call_counted o f n e h = ap (λ o. eqb n (typing.parameter_count o)) e ∙ eq-eq
 call_read : (c : Context) (bounds : List Local) (n : ℕ) (fn : PlainFunction) (name : List ℕ) (us : Trees) (ss : List Sort) (f : form.Tree)
     → slice_get c.scope.functions n ≡ Some fn → name ≡ fn.name → sorts_of fn.parameters ≡ ss
     → ((fs : form.Trees) → ShowEach fs (shown_terms c.scope (names_of c.variables) (names_of bounds) us) → read_all c bounds fs ≡ all_read us ss)
-    → StandEach c bounds us ss → StandsCall c bounds n fn ss → Shows f (shown_call name (shown_terms c.scope (names_of c.variables) (names_of bounds) us)) → read c bounds f ≡ whole (call n us) fn.result
+    → AreWellScoped c bounds us ss → IsWellScopedCall c bounds n fn ss → Shows f (shown_call name (shown_terms c.scope (names_of c.variables) (names_of bounds) us)) → read c bounds f ≡ whole (call n us) fn.result
 call_read c bounds n fn name no_trees [] f there same sorts ih each h g =
     named_read c bounds f name false _ (call n no_trees) fn.result (ap (meaning_of c bounds) same ∙ h) (λ p. refl) g
 call_read c bounds n fn name no_trees (s ∷ ss) f there same sorts ih each h g = absurd each
@@ -297,7 +297,7 @@ let_read c bounds names us t ss s xs x f some long ih body g =
     ∙ ap (λ us. whole (binding names us t) s) (trees_back us)
 
 -- a `let` that binds something has a binding
-some_bindings : (c : Context) (bounds : List Local) (sc : ScopeState) (vars outer names : List (List ℕ)) (us : Trees) (ss : List Sort) (q : Place) (bs : form.Trees) → StandEach c bounds us ss → length names ≡ length ss → 0 < length names
+some_bindings : (c : Context) (bounds : List Local) (sc : ScopeState) (vars outer names : List (List ℕ)) (us : Trees) (ss : List Sort) (q : Place) (bs : form.Trees) → AreWellScoped c bounds us ss → length names ≡ length ss → 0 < length names
     → ShowEach bs (shown_bindings sc vars outer names us) → reading.bindings_tests q bs ≡ []
 some_bindings c bounds sc vars outer names no_trees [] q bs h l some g = absurd (omega (arith, l, some))
 some_bindings c bounds sc vars outer names no_trees (s ∷ ss) q bs h l some g = absurd h
@@ -308,7 +308,7 @@ some_bindings c bounds sc vars outer (name ∷ names) (tree t us) ss q (form.tre
 -- TERMS
 
 mutual
-  pub term_read : (c : Context) (bounds : List Local) (t : Tree) (s : Sort) (f : form.Tree) → Stands c bounds t s → Shows f (shown_term c.scope (names_of c.variables) (names_of bounds) t)
+  pub term_read : (c : Context) (bounds : List Local) (t : Tree) (s : Sort) (f : form.Tree) → IsWellScoped c bounds t s → Shows f (shown_term c.scope (names_of c.variables) (names_of bounds) t)
       → read c bounds f ≡ whole t s
   term_read c bounds (constant d) s f h g = value_read c bounds d s f h g
   term_read c bounds (variable v primed) s f h g = variable_read c bounds v primed s f h g
@@ -324,7 +324,7 @@ mutual
       call_read c bounds n h.0 (name_at (function_names c.scope) n) us (sorts_of h.0.parameters) f h.1 (function_name c.scope.functions n h.0 h.1) refl
       (λ fs e. terms_read c bounds us (sorts_of h.0.parameters) fs h.3 e) h.3 h.4 g ∙ ap (whole (call n us)) (sym h.2)
 
-  pub terms_read : (c : Context) (bounds : List Local) (us : Trees) (ss : List Sort) (fs : form.Trees) → StandEach c bounds us ss
+  pub terms_read : (c : Context) (bounds : List Local) (us : Trees) (ss : List Sort) (fs : form.Trees) → AreWellScoped c bounds us ss
       → ShowEach fs (shown_terms c.scope (names_of c.variables) (names_of bounds) us) → read_all c bounds fs ≡ all_read us ss
   terms_read c bounds no_trees [] fs h g = ap (read_all c bounds) (shape.is_none fs g)
   terms_read c bounds no_trees (s ∷ ss) fs h g = absurd h
@@ -335,7 +335,7 @@ mutual
       ∙ ap (λ r. reading.both_arguments (reading.argument r) (read_all c bounds a.1)) (term_read c bounds t s a.0 h.0 a.3)
       ∙ ap (reading.both_arguments (reading.argument (whole t s))) (terms_read c bounds us ss a.1 h.1 a.4)
 
-  pub bindings_read : (c : Context) (bounds : List Local) (names : List (List ℕ)) (us : Trees) (ss : List Sort) (q : Place) (bs : form.Trees) → StandEach c bounds us ss → length names ≡ length ss
+  pub bindings_read : (c : Context) (bounds : List Local) (names : List (List ℕ)) (us : Trees) (ss : List Sort) (q : Place) (bs : form.Trees) → AreWellScoped c bounds us ss → length names ≡ length ss
       → ShowEach bs (shown_bindings c.scope (names_of c.variables) (names_of bounds) names us) → read_bindings c bounds q bs ≡ all_bound names us ss
   bindings_read c bounds [] no_trees [] q bs h l g = ap (read_bindings c bounds q) (shape.is_none bs g)
   bindings_read c bounds (name ∷ names) no_trees [] q bs h l g = absurd (omega (arith, l))

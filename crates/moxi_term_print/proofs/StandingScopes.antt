@@ -19,7 +19,7 @@ use Rattle.moxi_terms.specs.Sorts.{IsSort}
 use Rattle.moxi_terms.specs.Words.{is_operator}
 use Rattle.moxi_terms.proofs.PlaceLaws.{place_from, place_is, place_there, get_front, index_read}
 use Rattle.moxi_term_print.specs.Terms.{name_at}
-use Rattle.moxi_term_print.specs.StandingReads.{StandsSort}
+use Rattle.moxi_term_print.specs.WellScopedReads.{IsKnownSort}
 use Rattle.moxi_term_print.specs.StandingGrows.{Grows, sorts_first}
 use Rattle.moxi_term_print.specs.laws.StandingPlaces.{same_bytes, place_front, place_neither}
 use Rattle.moxi_term_print.proofs.StandingGrow.{constants_append, names_append, not_among, or_later, function_taken}
@@ -75,7 +75,7 @@ place_some n (x ∷ xs) (suc k) q h = by_test (bytes_eq q x) (place_some (suc n)
     by_test true h = refl
     by_test false h = h
 
--- what stands in a list is found there
+-- what is in a list is found there
 among_at : (xs : List (List ℕ)) (k : ℕ) (q : List ℕ) → slice_get xs k ≡ Some q → is_among xs q ≡ true
 among_at xs k q h = ap is_some (place_is xs q) ∙ place_some 0 xs k q h
 
@@ -221,7 +221,7 @@ first_kept names more q r u s h e =
     let k = some_place (place_of names q) h in
     ap (λ o. or_else (option_map Choice o) u) (place_front names more q k.0 k.1) ∙ sym (ap (λ o. or_else (option_map Choice o) r) k.1) ∙ e
 
-pub sort_stands_on : (s t : ScopeState) (sort : Sort) → IsSort s.enumerations sort → StandsSort s sort → Grows s t → StandsSort t sort
+pub sort_stands_on : (s t : ScopeState) (sort : Sort) → IsSort s.enumerations sort → IsKnownSort s sort → Grows s t → IsKnownSort t sort
 sort_stands_on s t Truth i h g = tt
 sort_stands_on s t (Bits w) i h g = h
 sort_stands_on s t (Choice n) i h g =

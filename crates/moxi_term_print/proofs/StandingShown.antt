@@ -1,4 +1,4 @@
--- What is shown of a term that can stand in its place can be shown, where its names can be spelled, by induction over the term.
+-- What is shown of a term that can appear in its place can be shown, where its names can be spelled, by induction over the term.
 use Rattle.std.proofs.Common.{◌≡◌, ℕ, zero, suc, ◌≤◌, Bool, true, false, cond, List, [], ◌∷◌, ◌++◌, length, Option, None, Some, refl, sym, ap, ◌∙◌, subst, arith}
 use Rattle.std.specs.Prelude.{◌==◌, slice_get, IsTrue}
 use Rattle.std.specs.Option.{option_map}
@@ -28,8 +28,8 @@ use Rattle.moxi_term_reading.specs.Reading.{Context, names_of}
 use Rattle.moxi_terms.specs.Meanings.{head_named}
 use Rattle.moxi_term_print.specs.Shown.{Showns, no_showns, shown, CanBeShown, AllCanBeShown}
 use Rattle.moxi_term_print.specs.Terms.{name_at, constants_or_none, operator_word, shown_operator, truth_word, shown_value, shown_sort, shown_call, shown_term, shown_terms, shown_bindings}
-use Rattle.moxi_term_print.specs.Standing.{bound_locals, StandsValue, StandsOperator, Stands, StandEach}
-use Rattle.moxi_term_print.specs.StandingReads.{StandsSort}
+use Rattle.moxi_term_print.specs.WellScoped.{bound_locals, IsWellScopedValue, IsKnownOperator, IsWellScoped, AreWellScoped}
+use Rattle.moxi_term_print.specs.WellScopedReads.{IsKnownSort}
 use Rattle.moxi_term_print.specs.StandingNames.{IsSpellable, AreSpellable, NamesAreSpellable, AllNamesAreSpellable, IsSpellableScope}
 use Rattle.moxi_term_print.proofs.StandingNumbers.{digits_run, decimal_run}
 use Rattle.moxi_term_print.proofs.StandingRead.{bound_names}
@@ -104,7 +104,7 @@ named_operator s name o h = by_place (place_of (function_names s) name) h
 word_shown : (s : ScopeState) (o : TermOp) → head_named s (operator_word o) ≡ Some (heads.Operator o) → IsTrue (is_simple (operator_word o))
 word_shown s o h = row_plain operators (operator_word o) o rows_plain (named_operator s (operator_word o) o h)
 
-operator_shown : (s : ScopeState) (o : TermOp) → StandsOperator s o → CanBeShown (shown_operator o)
+operator_shown : (s : ScopeState) (o : TermOp) → IsKnownOperator s o → CanBeShown (shown_operator o)
 operator_shown s (op.Extract high low) h = (refl, (refl, (decimal_run high h.0, (decimal_run low h.1, tt))))
 operator_shown s (op.ZeroExtend n) h = (refl, (refl, (decimal_run n h, tt)))
 operator_shown s (op.SignExtend n) h = (refl, (refl, (decimal_run n h, tt)))
@@ -116,12 +116,12 @@ truth_shown : (b : Bool) → IsTrue (is_simple (truth_word b))
 truth_shown true = refl
 truth_shown false = refl
 
-value_shown : (c : Context) (bounds : List Local) (d : Datum) (s : Sort) → IsSpellableScope c.scope → StandsValue c bounds d s → CanBeShown (shown_value c.scope d)
+value_shown : (c : Context) (bounds : List Local) (d : Datum) (s : Sort) → IsSpellableScope c.scope → IsWellScopedValue c bounds d s → CanBeShown (shown_value c.scope d)
 value_shown c bounds (datum.Truth b) s n h = truth_shown b
 value_shown c bounds (datum.Bits w) s n h = digits_run w.width w.bits h.1.0
 value_shown c bounds (datum.Constant m i) s n h = name_spellable (constants_or_none (slice_get c.scope.enumerations m)) i (constants_spellable c.scope.enumerations m n.constants)
 
-pub sort_shown : (s : ScopeState) (sort : Sort) → IsSpellableScope s → StandsSort s sort → CanBeShown (shown_sort s sort)
+pub sort_shown : (s : ScopeState) (sort : Sort) → IsSpellableScope s → IsKnownSort s sort → CanBeShown (shown_sort s sort)
 sort_shown s Truth n h = refl
 sort_shown s (Bits w) n h = (refl, (refl, (decimal_run w (let l : w ≤ WIDEST = h.1 in omega arith), tt)))
 sort_shown s (Choice m) n h = name_spellable (enumeration_names s) m n.enumerations
@@ -138,7 +138,7 @@ spelled_both (x ∷ xs) ys h g = (h.0, spelled_both xs ys h.1 g)
 
 module _ (c : Context) (scope : IsSpellableScope c.scope) (vars : AreSpellable (names_of c.variables)) where
   mutual
-    pub term_shown : (bounds : List Local) (t : Tree) (s : Sort) → AreSpellable (names_of bounds) → Stands c bounds t s → NamesAreSpellable t
+    pub term_shown : (bounds : List Local) (t : Tree) (s : Sort) → AreSpellable (names_of bounds) → IsWellScoped c bounds t s → NamesAreSpellable t
         → CanBeShown (shown_term c.scope (names_of c.variables) (names_of bounds) t)
     term_shown bounds (constant d) s k h n = value_shown c bounds d s scope h
     term_shown bounds (variable v primed) s k h n = primed_alike (name_at (names_of c.variables) v) primed ∙ name_spellable (names_of c.variables) v vars
@@ -161,13 +161,13 @@ module _ (c : Context) (scope : IsSpellableScope c.scope) (vars : AreSpellable (
         call_shown (name_at (function_names c.scope) m) (shown_terms c.scope (names_of c.variables) (names_of bounds) us) (name_spellable (function_names c.scope) m scope.functions)
         (terms_shown bounds us (sorts_of h.0.parameters) k h.3 n)
 
-    terms_shown : (bounds : List Local) (us : Trees) (ss : List Sort) → AreSpellable (names_of bounds) → StandEach c bounds us ss → AllNamesAreSpellable us
+    terms_shown : (bounds : List Local) (us : Trees) (ss : List Sort) → AreSpellable (names_of bounds) → AreWellScoped c bounds us ss → AllNamesAreSpellable us
         → AllCanBeShown (shown_terms c.scope (names_of c.variables) (names_of bounds) us)
     terms_shown bounds no_trees ss k h n = tt
     terms_shown bounds (tree t us) [] k h n = absurd h
     terms_shown bounds (tree t us) (s ∷ ss) k h n = (term_shown bounds t s k h.0 n.0, terms_shown bounds us ss k h.1 n.1)
 
-    bindings_shown : (bounds : List Local) (names : List (List ℕ)) (us : Trees) (ss : List Sort) → AreSpellable (names_of bounds) → StandEach c bounds us ss → AreSpellable names → AllNamesAreSpellable us
+    bindings_shown : (bounds : List Local) (names : List (List ℕ)) (us : Trees) (ss : List Sort) → AreSpellable (names_of bounds) → AreWellScoped c bounds us ss → AreSpellable names → AllNamesAreSpellable us
         → AllCanBeShown (shown_bindings c.scope (names_of c.variables) (names_of bounds) names us)
     bindings_shown bounds names no_trees ss k h g n = tt
     bindings_shown bounds [] (tree t us) ss k h g n = tt

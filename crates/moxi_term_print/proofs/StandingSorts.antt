@@ -20,7 +20,7 @@ use Rattle.moxi_terms.specs.Sorts.{IsSort}
 use Rattle.moxi_terms.specs.View.{ScopeState}
 use Rattle.moxi_term_print.specs.Shown.{Shows}
 use Rattle.moxi_term_print.specs.Terms.{name_at, numeral, shown_sort}
-use Rattle.moxi_term_print.specs.StandingReads.{StandsSort, HasSortNames}
+use Rattle.moxi_term_print.specs.WellScopedReads.{IsKnownSort, HasSortNames}
 use Rattle.moxi_term_print.proofs.StandingNumbers.{index_again}
 use Rattle.moxi_term_print.specs.laws.StandingPlaces.{fresh_place}
 use Rattle.moxi_term_print.specs.laws.StandingShapes as shape
@@ -29,7 +29,7 @@ width_read : (w : ℕ) (p q r : Place) → 1 ≤ w → w ≤ WIDEST → width_so
 width_read w p q r low high =
     ap (λ b. cond b (Ok (Bits w)) (Err (refusal 8 p))) (and_from (nat_le 1 w) (nat_le w WIDEST) (le-leb 1 w low) (le-leb w WIDEST high))
 
-pub sort_read : (s : ScopeState) (around : Place) (sort : Sort) (f : form.Tree) → StandsSort s sort → Shows f (shown_sort s sort) → sort_reading s around f ≡ Ok sort
+pub sort_read : (s : ScopeState) (around : Place) (sort : Sort) (f : form.Tree) → IsKnownSort s sort → Shows f (shown_sort s sort) → sort_reading s around f ≡ Ok sort
 sort_read s around Truth f h g = let a = shape.is_word f (codes "Bool") g in ap (sort_reading s around) a.1
 sort_read s around (Bits w) f h g =
     let a = shape.is_indexed f (codes "BitVec") _ g in
@@ -61,7 +61,7 @@ choice_stands s n fresh apart l =
         absurd (let t : true ≡ false = ap is_some (sym (sym (ap (place_of (enumeration_names s)) same) ∙ place)) ∙ apart in cc)
     by_test false e place = chosen_first (place_of (enumeration_names s) (name_at (enumeration_names s) n)) n _ place
 
-pub sort_stands : (s : ScopeState) (sort : Sort) → HasSortNames s → IsSort s.enumerations sort → StandsSort s sort
+pub sort_stands : (s : ScopeState) (sort : Sort) → HasSortNames s → IsSort s.enumerations sort → IsKnownSort s sort
 sort_stands s Truth names h = tt
 sort_stands s (Bits w) names h = h
 sort_stands s (Choice n) names h = choice_stands s n names.fresh names.apart h

@@ -8,7 +8,7 @@ use Rattle.word_core.specs.Digits.{read_word}
 use Rattle.moxi_sexpr.specs.declared.form.Atom.{Atom}
 use Rattle.moxi_sexpr.specs.declared.form.Atom.TheVariants.{Symbol, Keyword, Numeral, Binary, Hex, Quote}
 use Rattle.moxi_sexpr.specs.declared.scan.Spelling.TheVariants as how
-use Rattle.moxi_sexpr.specs.Atoms.{is_simple, may_stand}
+use Rattle.moxi_sexpr.specs.Atoms.{is_simple, may_appear}
 use Rattle.moxi_sexpr.specs.Printing.{reserved_words, is_among, symbol_spelling, IsPrintable, ArePrintable}
 use Rattle.moxi_sexpr.specs.Tree as form
 use Rattle.moxi_terms.specs.declared.names.Meaning.{Meaning}
@@ -26,10 +26,10 @@ use Rattle.moxi_term_reading.specs.Reading.{Context, Reading, Arguments, Binding
 use Rattle.moxi_term_print.specs.StandingNames.{IsSpellable, AreSpellable, NamesAreSpellable, AllNamesAreSpellable}
 
 -- a prime does not change how a name can be spelled
-pub primed_alike : (name : List ℕ) (primed : Bool) → may_stand (symbol_spelling name primed) name ≡ may_stand (symbol_spelling name false) name
+pub primed_alike : (name : List ℕ) (primed : Bool) → may_appear (symbol_spelling name primed) name ≡ may_appear (symbol_spelling name false) name
 primed_alike name primed = by_test (is_simple name && not (is_among name reserved_words))
   where
-    by_test : (b : Bool) → may_stand (cond b (how.Bare primed) (how.Barred primed)) name ≡ may_stand (cond b (how.Bare false) (how.Barred false)) name
+    by_test : (b : Bool) → may_appear (cond b (how.Bare primed) (how.Barred primed)) name ≡ may_appear (cond b (how.Bare false) (how.Barred false)) name
     by_test true = refl
     by_test false = refl
 

@@ -1,4 +1,4 @@
--- A form of which no test fails spells a term that can stand in its place, by induction over the form.
+-- A form of which no test fails spells a term that can appear in its place, by induction over the form.
 use Rattle.std.proofs.Common.{◌≡◌, ℕ, zero, suc, ◌+◌, ◌<◌, Bool, true, false, not, cond, eqb, List, [], ◌∷◌, ◌++◌, ◌⊎◌, map, length, Option, None, Some, Result, Ok, Err, IfOk, nat_lt, nat_le, refl, sym, ap, ◌∙◌, subst, arith, inl, inr}
 use Rattle.std.specs.Prelude.{slice_get, codes, option_and_then, ◌*◌, ◌&&◌}
 use Rattle.std.specs.Option.{option_map}
@@ -52,8 +52,8 @@ use Rattle.moxi_term_reading.specs.WellSorted.{HaveKnownSorts}
 use Rattle.moxi_terms.proofs.PlaceLaws.{place_there, index_read}
 use Rattle.moxi_term_reading.specs.laws.SortedParts.{some_fails, none_in, stays, FoundIn, first_found, last_found, known_append, all_have_sorts, names_long, read_is_word, tests_hold, call_fits, head_fails}
 use Rattle.moxi_term_print.specs.Terms.{name_at, constants_or_none, constant_name, operator_word, truth_word}
-use Rattle.moxi_term_print.specs.Standing.{bound_locals, StandsPrime, StandsOperator, StandsCall, Stands, StandEach}
-use Rattle.moxi_term_print.specs.StandingReads.{IsStanding}
+use Rattle.moxi_term_print.specs.WellScoped.{bound_locals, IsAllowedPrime, IsKnownOperator, IsWellScopedCall, IsWellScoped, AreWellScoped}
+use Rattle.moxi_term_print.specs.WellScopedReads.{IsWellScopedReading}
 
 -- NAMES THAT ARE FOUND
 
@@ -166,7 +166,7 @@ row_found (row ∷ rows) name o h g =
 operator_word_is : (name : List ℕ) (o : TermOp) → operator_named name ≡ Some o → (operator_word o ≡ name) × (has_indices o ≡ false)
 operator_word_is name o h = row_found operators name o rows_agree h
 
-plain_stands : (s : ScopeState) (o : TermOp) → has_indices o ≡ false → head_named s (operator_word o) ≡ Some (heads.Operator o) → StandsOperator s o
+plain_stands : (s : ScopeState) (o : TermOp) → has_indices o ≡ false → head_named s (operator_word o) ≡ Some (heads.Operator o) → IsKnownOperator s o
 unfolding has_indices
 plain_stands s (op.Extract high low) e g = absurd (cc)
 plain_stands s (op.ZeroExtend n) e g = absurd (cc)
@@ -208,10 +208,10 @@ form_count form.no_trees = 0
 form_count (form.tree t ts) = suc (form_count ts)
 
 module _ (c : Context) (vars : List Sort) (of_vars : HaveKnownSorts c.variables vars) where
-  checked_stands : (ls : List Local) (t : Tree) (s : Option Sort) (fs : List Refusal) (sort : Sort) → fs ≡ [] → s ≡ Some sort → Stands c ls t sort → IsStanding c ls (reading.checked_term t s fs)
+  checked_stands : (ls : List Local) (t : Tree) (s : Option Sort) (fs : List Refusal) (sort : Sort) → fs ≡ [] → s ≡ Some sort → IsWellScoped c ls t sort → IsWellScopedReading c ls (reading.checked_term t s fs)
   checked_stands ls t s fs sort h e g = record { sort = sort; known = stays fs s h ∙ e; stands = g }
 
-  never : (ls : List Local) (f : Refusal) (fs : List Refusal) (r : Reading) → f ∷ fs ≡ [] → IsStanding c ls r
+  never : (ls : List Local) (f : Refusal) (fs : List Refusal) (r : Reading) → f ∷ fs ≡ [] → IsWellScopedReading c ls r
   never ls f fs r h = absurd (some_fails f fs h)
 
   -- ATOMS
@@ -292,13 +292,13 @@ module _ (c : Context) (vars : List Sort) (of_vars : HaveKnownSorts c.variables 
       (either_fits ls name _ _ (variable_fits ls name (finding.first_of 0 c.variables name) (first_found 0 c.variables vars name of_vars) (first_named 0 c.variables name))
       (either_fits ls name _ _ (value_fits ls name) (call_fits_name ls name (place_of (function_names c.scope) name) refl)))
 
-  prime_stands : (primes : Primes) (primed : Bool) (p : Place) → reading.variable_primes primes primed p ≡ [] → StandsPrime primes primed
+  prime_stands : (primes : Primes) (primed : Bool) (p : Place) → reading.variable_primes primes primed p ≡ [] → IsAllowedPrime primes primed
   prime_stands Allowed primed p h = tt
   prime_stands Refused true p h = absurd (some_fails (refusal 7 p) [] h)
   prime_stands Refused false p h = refl
 
   named_stands : (ls : List Local) (p : Place) (name : List ℕ) (primed : Bool) (m : Option Meaning) → meaning_of c ls name ≡ m → Fits ls name m → (reading.named_reading c.primes p primed m).failures ≡ []
-      → IsStanding c ls (reading.named_reading c.primes p primed m)
+      → IsWellScopedReading c ls (reading.named_reading c.primes p primed m)
   named_stands ls p name primed None e f h = never ls (refusal 4 p) [] _ h
   named_stands ls p name primed (Some (meaning.Bound i s)) e f h =
       checked_stands ls (bound i) s _ f.0 h f.1 (ap (meaning_of c ls) f.2 ∙ e ∙ ap (λ s. Some (meaning.Bound i s)) f.1)
@@ -314,19 +314,19 @@ module _ (c : Context) (vars : List Sort) (of_vars : HaveKnownSorts c.variables 
         f.0,
         f.1,
         sym f.3,
-        subst (StandEach c ls no_trees) (sym f.2) tt,
-        subst (StandsCall c ls n f.0) (sym f.2) (ap (meaning_of c ls) f.4 ∙ e ∙ ap (λ s. Some (meaning.Call n s)) (sym f.3)),
+        subst (AreWellScoped c ls no_trees) (sym f.2) tt,
+        subst (IsWellScopedCall c ls n f.0) (sym f.2) (ap (meaning_of c ls) f.4 ∙ e ∙ ap (λ s. Some (meaning.Call n s)) (sym f.3)),
       )
 
   word_stands : (ls : List Local) (p : Place) (w base : ℕ) (digits : List ℕ) (fs : List Refusal) → (reading.word_reading p (read_word w base digits) fs).failures ≡ []
-      → IsStanding c ls (reading.word_reading p (read_word w base digits) fs)
+      → IsWellScopedReading c ls (reading.word_reading p (read_word w base digits) fs)
   word_stands ls p w base digits fs h = by_word (read_word w base digits) refl h
     where
-      by_word : (o : Option BitVector) → read_word w base digits ≡ o → (reading.word_reading p o fs).failures ≡ [] → IsStanding c ls (reading.word_reading p o fs)
+      by_word : (o : Option BitVector) → read_word w base digits ≡ o → (reading.word_reading p o fs).failures ≡ [] → IsWellScopedReading c ls (reading.word_reading p o fs)
       by_word None e h = never ls (refusal 8 p) [] _ h
       by_word (Some v) e h = checked_stands ls (constant (datum.Bits v)) (Some (Bits v.width)) fs (Bits v.width) h refl (refl, read_is_word w base digits v e)
 
-  atom_stands : (ls : List Local) (ss : List Sort) (p : Place) (a : Atom) → HaveKnownSorts ls ss → (reading.atom_reading c ls p a).failures ≡ [] → IsStanding c ls (reading.atom_reading c ls p a)
+  atom_stands : (ls : List Local) (ss : List Sort) (p : Place) (a : Atom) → HaveKnownSorts ls ss → (reading.atom_reading c ls p a).failures ≡ [] → IsWellScopedReading c ls (reading.atom_reading c ls p a)
   atom_stands ls ss p (Symbol name primed) k h = named_stands ls p name primed (meaning_of c ls name) refl (name_fits ls ss name k) h
   atom_stands ls ss p (Keyword name) k h = never ls (refusal 12 p) [] _ h
   atom_stands ls ss p (Numeral digits) k h = never ls (refusal 12 p) [] _ h
@@ -334,114 +334,114 @@ module _ (c : Context) (vars : List Sort) (of_vars : HaveKnownSorts c.variables 
   atom_stands ls ss p (Hex digits) k h = word_stands ls p (4 * length digits) 16 digits [] h
   atom_stands ls ss p (Quote bytes) k h = never ls (refusal 12 p) [] _ h
 
-  underscore_stands : (ls : List Local) (p q : Place) (first : Bool) (ts : form.Trees) → (reading.underscore_reading p q first ts).failures ≡ [] → IsStanding c ls (reading.underscore_reading p q first ts)
+  underscore_stands : (ls : List Local) (p q : Place) (first : Bool) (ts : form.Trees) → (reading.underscore_reading p q first ts).failures ≡ [] → IsWellScopedReading c ls (reading.underscore_reading p q first ts)
   underscore_stands ls p q first form.no_trees h = never ls (refusal 4 q) [] _ h
   underscore_stands ls p q first (form.tree t ts) h = by_symbol (symbol_of t) h
     where
-      by_width : (digits : List ℕ) (fs : List Refusal) (o : Option (List ℕ)) → (reading.literal_reading p digits fs o).failures ≡ [] → IsStanding c ls (reading.literal_reading p digits fs o)
+      by_width : (digits : List ℕ) (fs : List Refusal) (o : Option (List ℕ)) → (reading.literal_reading p digits fs o).failures ≡ [] → IsWellScopedReading c ls (reading.literal_reading p digits fs o)
       by_width digits fs None h = never ls (refusal 12 p) [] _ h
       by_width digits fs (Some width) h = word_stands ls p (sort_reading.index_of width) 10 digits fs h
 
-      by_digits : (name : List ℕ) (fs : List Refusal) (o : Option (List ℕ)) → (reading.literal_named p q name fs o ts).failures ≡ [] → IsStanding c ls (reading.literal_named p q name fs o ts)
+      by_digits : (name : List ℕ) (fs : List Refusal) (o : Option (List ℕ)) → (reading.literal_named p q name fs o ts).failures ≡ [] → IsWellScopedReading c ls (reading.literal_named p q name fs o ts)
       by_digits name fs None h = never ls _ [] _ h
       by_digits name fs (Some digits) h = by_width digits fs (sort_reading.only_numeral ts) h
 
-      by_symbol : (o : Option (List ℕ × Bool)) → (reading.symbol_underscored p q first (place_in t) o ts).failures ≡ [] → IsStanding c ls (reading.symbol_underscored p q first (place_in t) o ts)
+      by_symbol : (o : Option (List ℕ × Bool)) → (reading.symbol_underscored p q first (place_in t) o ts).failures ≡ [] → IsWellScopedReading c ls (reading.symbol_underscored p q first (place_in t) o ts)
       by_symbol None h = never ls (refusal 4 q) [] _ h
       by_symbol (Some x) h = by_digits x.0 _ (reading.literal_digits x.0) h
 
   -- HEADS
 
   -- a head whose name means it
-  abbrev HeadStands : Head → Type 0
-  HeadStands (heads.Operator o) = StandsOperator c.scope o
-  HeadStands (heads.Function n) =
+  abbrev HeadIsKnown : Head → Type 0
+  HeadIsKnown (heads.Operator o) = IsKnownOperator c.scope o
+  HeadIsKnown (heads.Function n) =
       (f : PlainFunction) × (slice_get c.scope.functions n ≡ Some f) × (eqb (length f.parameters) 0 ≡ false)
       × (head_named c.scope f.name ≡ Some (heads.Function n)) × (bytes_eq f.name (codes "let") ≡ false) × (bytes_eq f.name (codes "_") ≡ false)
 
-  operator_stands : (name : List ℕ) (o : Option TermOp) (h : Head) → operator_named name ≡ o → head_named c.scope name ≡ Some h → option_map heads.Operator o ≡ Some h → HeadStands h
+  operator_stands : (name : List ℕ) (o : Option TermOp) (h : Head) → operator_named name ≡ o → head_named c.scope name ≡ Some h → option_map heads.Operator o ≡ Some h → HeadIsKnown h
   operator_stands name None h e f g = absurd (none-some h g)
   operator_stands name (Some o) h e f g =
       let w = operator_word_is name o e in
-      subst HeadStands (same_Some (heads.Operator o) h g) (plain_stands c.scope o w.1 (ap (head_named c.scope) w.0 ∙ f ∙ sym g))
+      subst HeadIsKnown (same_Some (heads.Operator o) h g) (plain_stands c.scope o w.1 (ap (head_named c.scope) w.0 ∙ f ∙ sym g))
 
   function_stands : (name : List ℕ) (n : ℕ) (f : PlainFunction) (h : Head) → bytes_eq name (codes "let") ≡ false → bytes_eq name (codes "_") ≡ false → place_of (function_names c.scope) name ≡ Some n
       → slice_get c.scope.functions n ≡ Some f → head_named c.scope name ≡ Some h → (b : Bool) → eqb (length f.parameters) 0 ≡ b
-      → or_else (cond b None (Some (heads.Function n))) (option_map heads.Operator (operator_named name)) ≡ Some h → HeadStands h
+      → or_else (cond b None (Some (heads.Function n))) (option_map heads.Operator (operator_named name)) ≡ Some h → HeadIsKnown h
   function_stands name n f h x y place there e true b g = operator_stands name (operator_named name) h refl e g
   function_stands name n f h x y place there e false b g =
       let same : f.name ≡ name = function_at name c.scope.functions n f there (place_there (function_names c.scope) name n place) in
-      subst HeadStands (same_Some (heads.Function n) h g)
+      subst HeadIsKnown (same_Some (heads.Function n) h g)
       (f, there, b, ap (head_named c.scope) same ∙ e ∙ sym g, ap (λ w. bytes_eq w (codes "let")) same ∙ x, ap (λ w. bytes_eq w (codes "_")) same ∙ y)
 
-  head_name_stands : (name : List ℕ) (h : Head) → bytes_eq name (codes "let") ≡ false → bytes_eq name (codes "_") ≡ false → head_named c.scope name ≡ Some h → HeadStands h
+  head_name_stands : (name : List ℕ) (h : Head) → bytes_eq name (codes "let") ≡ false → bytes_eq name (codes "_") ≡ false → head_named c.scope name ≡ Some h → HeadIsKnown h
   head_name_stands name h x y e = by_place (place_of (function_names c.scope) name) refl e
     where
       by_function : (n : ℕ) → place_of (function_names c.scope) name ≡ Some n → (o : Option PlainFunction) → slice_get c.scope.functions n ≡ o
-          → or_else (meanings.head_call n o) (option_map heads.Operator (operator_named name)) ≡ Some h → HeadStands h
+          → or_else (meanings.head_call n o) (option_map heads.Operator (operator_named name)) ≡ Some h → HeadIsKnown h
       by_function n place None there g = operator_stands name (operator_named name) h refl e g
       by_function n place (Some f) there g = function_stands name n f h x y place there e (eqb (length f.parameters) 0) refl g
 
-      by_place : (o : Option ℕ) → place_of (function_names c.scope) name ≡ o → or_else (meanings.head_function c.scope.functions o) (option_map heads.Operator (operator_named name)) ≡ Some h → HeadStands h
+      by_place : (o : Option ℕ) → place_of (function_names c.scope) name ≡ o → or_else (meanings.head_function c.scope.functions o) (option_map heads.Operator (operator_named name)) ≡ Some h → HeadIsKnown h
       by_place None place g = operator_stands name (operator_named name) h refl e g
       by_place (Some n) place g = by_function n place (slice_get c.scope.functions n) refl g
 
-  known_stands : (name : List ℕ) (f : Refusal) (o : Option Head) → bytes_eq name (codes "let") ≡ false → bytes_eq name (codes "_") ≡ false → head_named c.scope name ≡ o → IfOk (reading.known_head o f) HeadStands
+  known_stands : (name : List ℕ) (f : Refusal) (o : Option Head) → bytes_eq name (codes "let") ≡ false → bytes_eq name (codes "_") ≡ false → head_named c.scope name ≡ o → IfOk (reading.known_head o f) HeadIsKnown
   known_stands name f None x y e = tt
   known_stands name f (Some h) x y e = head_name_stands name h x y e
 
-  symbol_stands : (p q : Place) (o : Option (List ℕ × Bool)) → is_named (codes "let") o ≡ false → is_named (codes "_") o ≡ false → IfOk (reading.atom_head c.scope p q o) HeadStands
+  symbol_stands : (p q : Place) (o : Option (List ℕ × Bool)) → is_named (codes "let") o ≡ false → is_named (codes "_") o ≡ false → IfOk (reading.atom_head c.scope p q o) HeadIsKnown
   symbol_stands p q None x y = tt
   symbol_stands p q (Some w) x y = known_stands w.0 _ (head_named c.scope w.0) x y refl
 
-  extracted_stands : (q : Place) (a b : Option (List ℕ)) → IfOk (reading.extracted_head q a b) HeadStands
+  extracted_stands : (q : Place) (a b : Option (List ℕ)) → IfOk (reading.extracted_head q a b) HeadIsKnown
   extracted_stands q None b = tt
   extracted_stands q (Some high) None = tt
   extracted_stands q (Some high) (Some low) = (index_small high, index_small low)
 
-  paired_stands : (q : Place) (o : Option (form.Tree × form.Tree)) → IfOk (reading.paired_head q o) HeadStands
+  paired_stands : (q : Place) (o : Option (form.Tree × form.Tree)) → IfOk (reading.paired_head q o) HeadIsKnown
   paired_stands q None = tt
   paired_stands q (Some x) = extracted_stands q (numeral_of x.0) (numeral_of x.1)
 
-  extended_stands : (q : Place) (name : List ℕ) (o : Option (List ℕ)) → IfOk (reading.extended_head q name o) HeadStands
+  extended_stands : (q : Place) (name : List ℕ) (o : Option (List ℕ)) → IfOk (reading.extended_head q name o) HeadIsKnown
   extended_stands q name None = tt
   extended_stands q name (Some count) = by_word (bytes_eq name (codes "zero_extend"))
     where
-      by_word : (b : Bool) → IfOk (let r : Result Head HeadFailure = cond b (Ok (heads.Operator (op.ZeroExtend (sort_reading.index_of count)))) (Ok (heads.Operator (op.SignExtend (sort_reading.index_of count)))) in r) HeadStands
+      by_word : (b : Bool) → IfOk (let r : Result Head HeadFailure = cond b (Ok (heads.Operator (op.ZeroExtend (sort_reading.index_of count)))) (Ok (heads.Operator (op.SignExtend (sort_reading.index_of count)))) in r) HeadIsKnown
       by_word true = index_small count
       by_word false = index_small count
 
-  indexed_stands : (p q : Place) (o : Option (List ℕ × Bool)) (ts : form.Trees) → IfOk (reading.symbol_head p q o ts) HeadStands
+  indexed_stands : (p q : Place) (o : Option (List ℕ × Bool)) (ts : form.Trees) → IfOk (reading.symbol_head p q o ts) HeadIsKnown
   indexed_stands p q None ts = tt
   indexed_stands p q (Some x) ts = by_word (is_one_of indexed_operators x.0) (bytes_eq x.0 (codes "extract"))
     where
-      by_word : (a b : Bool) → IfOk (cond a (cond b (reading.paired_head q (pair_of ts)) (reading.extended_head q x.0 (sort_reading.only_numeral ts))) (Err (Unknown (sort_reading.unknown (is_one_of left_out_operators x.0) p q)))) HeadStands
+      by_word : (a b : Bool) → IfOk (cond a (cond b (reading.paired_head q (pair_of ts)) (reading.extended_head q x.0 (sort_reading.only_numeral ts))) (Err (Unknown (sort_reading.unknown (is_one_of left_out_operators x.0) p q)))) HeadIsKnown
       by_word true true = paired_stands q (pair_of ts)
       by_word true false = extended_stands q x.0 (sort_reading.only_numeral ts)
       by_word false b = tt
 
-  listed_stands : (p q : Place) (ts : form.Trees) → IfOk (reading.listed_head p q ts) HeadStands
+  listed_stands : (p q : Place) (ts : form.Trees) → IfOk (reading.listed_head p q ts) HeadIsKnown
   listed_stands p q form.no_trees = tt
   listed_stands p q (form.tree t ts) = indexed_stands p q (symbol_of t) ts
 
-  head_stands : (p : Place) (t : form.Tree) → is_word (codes "let") t ≡ false → is_word (codes "_") t ≡ false → IfOk (reading.head_of c.scope p t) HeadStands
+  head_stands : (p : Place) (t : form.Tree) → is_word (codes "let") t ≡ false → is_word (codes "_") t ≡ false → IfOk (reading.head_of c.scope p t) HeadIsKnown
   head_stands p (form.atom q a) x y = symbol_stands p q (symbol_atom a) x y
   head_stands p (form.list q form.no_trees) x y = tt
   head_stands p (form.list q (form.tree t ts)) x y = by_word (is_word (codes "_") t)
     where
-      by_word : (b : Bool) → IfOk (cond b (reading.listed_head p q ts) (Err (Unknown (refusal 4 q)))) HeadStands
+      by_word : (b : Bool) → IfOk (cond b (reading.listed_head p q ts) (Err (Unknown (refusal 4 q)))) HeadIsKnown
       by_word true = listed_stands p q ts
       by_word false = tt
 
   -- APPLICATIONS
 
   -- terms one behind the other
-  record AreStanding (ls : List Local) (x : Arguments) : Type 0 where
+  record AreWellScopedReadings (ls : List Local) (x : Arguments) : Type 0 where
     pub sorts : List Sort
     pub known : x.sorts ≡ Some sorts
-    pub stand : StandEach c ls (trees_of x.terms) sorts
+    pub stand : AreWellScoped c ls (trees_of x.terms) sorts
 
-  both_stand : (ls : List Local) (r : Reading) (x : Arguments) → IsStanding c ls r → AreStanding ls x → AreStanding ls (reading.both_arguments (reading.argument r) x)
+  both_stand : (ls : List Local) (r : Reading) (x : Arguments) → IsWellScopedReading c ls r → AreWellScopedReadings ls x → AreWellScopedReadings ls (reading.both_arguments (reading.argument r) x)
   both_stand ls r x h g = record {
     sorts = h.sort ∷ g.sorts;
     known = ap (λ o. reading.joined (option_map (λ s. s ∷ []) o) x.sorts) h.known ∙ ap (reading.joined (Some (h.sort ∷ []))) g.known;
@@ -449,11 +449,11 @@ module _ (c : Context) (vars : List Sort) (of_vars : HaveKnownSorts c.variables 
   }
 
   call_stands : (ls : List Local) (n : ℕ) (f : PlainFunction) (ps : List Variable) → eqb (length ps) 0 ≡ false → head_named c.scope f.name ≡ Some (heads.Function n) → bytes_eq f.name (codes "let") ≡ false
-      → bytes_eq f.name (codes "_") ≡ false → StandsCall c ls n f (sorts_of ps)
+      → bytes_eq f.name (codes "_") ≡ false → IsWellScopedCall c ls n f (sorts_of ps)
   call_stands ls n f [] e h x y = absurd (cc)
   call_stands ls n f (v ∷ ps) e h x y = (h, x, y)
 
-  headed_stands : (ls : List Local) (h : Head) (x : Arguments) (g : AreStanding ls x) (s : Sort) → HeadStands h → typing.head_sort c.scope.functions h g.sorts ≡ Ok s → Stands c ls (reading.headed h (trees_of x.terms)) s
+  headed_stands : (ls : List Local) (h : Head) (x : Arguments) (g : AreWellScopedReadings ls x) (s : Sort) → HeadIsKnown h → typing.head_sort c.scope.functions h g.sorts ≡ Ok s → IsWellScoped c ls (reading.headed h (trees_of x.terms)) s
   headed_stands ls (heads.Operator o) x g s h e = (g.sorts, g.stand, e, h)
   headed_stands ls (heads.Function n) x g s h e =
       let r = call_fits (slice_get c.scope.functions n) g.sorts s e in
@@ -461,12 +461,12 @@ module _ (c : Context) (vars : List Sort) (of_vars : HaveKnownSorts c.variables 
         h.0,
         h.1,
         sym r.3 ∙ ap (λ (f : PlainFunction). f.result) same,
-        subst (StandEach c ls (trees_of x.terms)) (sym r.2 ∙ ap (λ (f : PlainFunction). sorts_of f.parameters) same) g.stand,
+        subst (AreWellScoped c ls (trees_of x.terms)) (sym r.2 ∙ ap (λ (f : PlainFunction). sorts_of f.parameters) same) g.stand,
         call_stands ls n h.0 h.0.parameters h.2 h.3 h.4 h.5,
       )
 
-  application_stands : (ls : List Local) (p : Place) (primes : List Refusal) (h : Result Head HeadFailure) (x : Arguments) → IfOk h HeadStands → (x.failures ≡ [] → AreStanding ls x)
-      → (reading.application c.scope.functions p primes h x).failures ≡ [] → IsStanding c ls (reading.application c.scope.functions p primes h x)
+  application_stands : (ls : List Local) (p : Place) (primes : List Refusal) (h : Result Head HeadFailure) (x : Arguments) → IfOk h HeadIsKnown → (x.failures ≡ [] → AreWellScopedReadings ls x)
+      → (reading.application c.scope.functions p primes h x).failures ≡ [] → IsWellScopedReading c ls (reading.application c.scope.functions p primes h x)
   application_stands ls p primes (Err f) x i g e = absurd (head_fails p f (length x.terms) (none_in x.failures (reading.head_tests p f (length x.terms)) e).1)
   application_stands ls p primes (Ok h) x i g e =
       let e1 = none_in x.failures _ e in
@@ -485,10 +485,10 @@ module _ (c : Context) (vars : List Sort) (of_vars : HaveKnownSorts c.variables 
   record AreBoundTo (ls : List Local) (n : ℕ) (x : Bindings) : Type 0 where
     pub sorts : List Sort
     pub known : HaveKnownSorts x.locals sorts
-    pub stand : StandEach c ls (trees_of x.terms) sorts
+    pub stand : AreWellScoped c ls (trees_of x.terms) sorts
     pub count : length x.locals ≡ n
 
-  stand_append : (ls : List Local) (ts us : List Tree) (s1 s2 : List Sort) → StandEach c ls (trees_of ts) s1 → StandEach c ls (trees_of us) s2 → StandEach c ls (trees_of (ts ++ us)) (s1 ++ s2)
+  stand_append : (ls : List Local) (ts us : List Tree) (s1 s2 : List Sort) → AreWellScoped c ls (trees_of ts) s1 → AreWellScoped c ls (trees_of us) s2 → AreWellScoped c ls (trees_of (ts ++ us)) (s1 ++ s2)
   stand_append ls [] us [] s2 h g = g
   stand_append ls [] us (s ∷ s1) s2 h g = absurd h
   stand_append ls (t ∷ ts) us [] s2 h g = absurd h
@@ -502,14 +502,14 @@ module _ (c : Context) (vars : List Sort) (of_vars : HaveKnownSorts c.variables 
     count = omega (arith, length-append x.locals y.locals, h.count, g.count);
   }
 
-  binding_stands : (ls : List Local) (p : Place) (t : form.Tree) (o : Option (List ℕ × Bool)) (r : Reading) → (r.failures ≡ [] → IsStanding c ls r)
+  binding_stands : (ls : List Local) (p : Place) (t : form.Tree) (o : Option (List ℕ × Bool)) (r : Reading) → (r.failures ≡ [] → IsWellScopedReading c ls r)
       → (reading.binding_of p t o r).shape ≡ [] → (reading.binding_of p t o r).failures ≡ [] → AreBoundTo ls 1 (reading.binding_of p t o r)
   binding_stands ls p t None r g h f = absurd (some_fails (refusal 12 p) [] h)
   binding_stands ls p t (Some x) r g h f = let w = g f in record { sorts = w.sort ∷ []; known = (w.known, tt); stand = (w.stands, tt); count = refl }
 
   let_stands : (ls : List Local) (ss : List Sort) (tests : List Refusal) (n : ℕ) (x : Bindings) (r : Reading) → HaveKnownSorts ls ss → (tests ≡ [] → 0 < n)
-      → (x.shape ≡ [] → x.failures ≡ [] → AreBoundTo ls n x) → ((ts : List Sort) → HaveKnownSorts (ls ++ x.locals) ts → r.failures ≡ [] → IsStanding c (ls ++ x.locals) r)
-      → (reading.let_reading tests x r).failures ≡ [] → IsStanding c ls (reading.let_reading tests x r)
+      → (x.shape ≡ [] → x.failures ≡ [] → AreBoundTo ls n x) → ((ts : List Sort) → HaveKnownSorts (ls ++ x.locals) ts → r.failures ≡ [] → IsWellScopedReading c (ls ++ x.locals) r)
+      → (reading.let_reading tests x r).failures ≡ [] → IsWellScopedReading c ls (reading.let_reading tests x r)
   let_stands ls ss tests n x r k some g b e =
       let e1 = none_in tests _ e in
       let e2 = none_in x.shape _ e1.1 in
@@ -524,7 +524,7 @@ module _ (c : Context) (vars : List Sort) (of_vars : HaveKnownSorts c.variables 
           (let q : 0 < n = some e1.0 in omega (arith, q, names_count x.locals, a.count)),
           names_long x.locals a.sorts a.known,
           a.stand,
-          subst (λ ms. Stands c (ls ++ ms) r.term w.sort) (sym (bound_back x.locals a.sorts a.known)) w.stands,
+          subst (λ ms. IsWellScoped c (ls ++ ms) r.term w.sort) (sym (bound_back x.locals a.sorts a.known)) w.stands,
         );
       }
 
@@ -535,27 +535,27 @@ module _ (c : Context) (vars : List Sort) (of_vars : HaveKnownSorts c.variables 
   -- FORMS
 
   mutual
-    pub read_stands : (ls : List Local) (ss : List Sort) (t : form.Tree) → HaveKnownSorts ls ss → (reading.read c ls t).failures ≡ [] → IsStanding c ls (reading.read c ls t)
+    pub read_stands : (ls : List Local) (ss : List Sort) (t : form.Tree) → HaveKnownSorts ls ss → (reading.read c ls t).failures ≡ [] → IsWellScopedReading c ls (reading.read c ls t)
     read_stands ls ss (form.atom p a) k h = atom_stands ls ss p a k h
     read_stands ls ss (form.list p form.no_trees) k h = never ls (refusal 12 p) [] _ h
     read_stands ls ss (form.list p (form.tree head ts)) k h =
         by_word (is_word (codes "let") head) (is_word (codes "_") head) refl refl (read_let_stands ls ss p (reading.head_primes head) ts k) (underscore_stands ls p (place_in head) (is_primed head) ts)
         (λ x y. application_stands ls p (reading.head_primes head) (reading.head_of c.scope p head) (reading.read_all c ls ts) (head_stands p head x y) (read_all_stands ls ss ts k)) h
       where
-        by_word : (a b : Bool) {r s t : Reading} → is_word (codes "let") head ≡ a → is_word (codes "_") head ≡ b → (r.failures ≡ [] → IsStanding c ls r) → (s.failures ≡ [] → IsStanding c ls s)
-            → (is_word (codes "let") head ≡ false → is_word (codes "_") head ≡ false → t.failures ≡ [] → IsStanding c ls t) → (cond a r (cond b s t)).failures ≡ [] → IsStanding c ls (cond a r (cond b s t))
+        by_word : (a b : Bool) {r s t : Reading} → is_word (codes "let") head ≡ a → is_word (codes "_") head ≡ b → (r.failures ≡ [] → IsWellScopedReading c ls r) → (s.failures ≡ [] → IsWellScopedReading c ls s)
+            → (is_word (codes "let") head ≡ false → is_word (codes "_") head ≡ false → t.failures ≡ [] → IsWellScopedReading c ls t) → (cond a r (cond b s t)).failures ≡ [] → IsWellScopedReading c ls (cond a r (cond b s t))
         by_word true b x y f g h e = f e
         by_word false true x y f g h e = g e
         by_word false false x y f g h e = h x y e
 
-    read_all_stands : (ls : List Local) (ss : List Sort) (ts : form.Trees) → HaveKnownSorts ls ss → (reading.read_all c ls ts).failures ≡ [] → AreStanding ls (reading.read_all c ls ts)
+    read_all_stands : (ls : List Local) (ss : List Sort) (ts : form.Trees) → HaveKnownSorts ls ss → (reading.read_all c ls ts).failures ≡ [] → AreWellScopedReadings ls (reading.read_all c ls ts)
     read_all_stands ls ss form.no_trees k h = record { sorts = []; known = refl; stand = tt }
     read_all_stands ls ss (form.tree t ts) k h =
         let e = none_in (reading.read c ls t).failures (reading.read_all c ls ts).failures h in
         both_stand ls (reading.read c ls t) (reading.read_all c ls ts) (read_stands ls ss t k e.0) (read_all_stands ls ss ts k e.1)
 
     read_let_stands : (ls : List Local) (ss : List Sort) (p : Place) (primes : List Refusal) (ts : form.Trees) → HaveKnownSorts ls ss → (reading.read_let c ls p primes ts).failures ≡ []
-        → IsStanding c ls (reading.read_let c ls p primes ts)
+        → IsWellScopedReading c ls (reading.read_let c ls p primes ts)
     read_let_stands ls ss p primes form.no_trees k h = never ls (refusal 12 p) [] _ h
     read_let_stands ls ss p primes (form.tree (form.atom q a) us) k h = never ls (refusal 12 p) [] _ h
     read_let_stands ls ss p primes (form.tree (form.list q bs) form.no_trees) k h = never ls (refusal 12 p) [] _ h

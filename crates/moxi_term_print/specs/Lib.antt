@@ -1,9 +1,9 @@
 pub mod Shown
 pub mod Terms
-pub mod Standing
+pub mod WellScoped
 pub mod Declarations
 pub mod Bindings
-pub mod StandingReads
+pub mod WellScopedReads
 pub mod StandingGrows
 pub mod StandingNames
 pub mod laws

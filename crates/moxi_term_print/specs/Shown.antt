@@ -22,7 +22,7 @@ abbrev pub joined : Showns → Showns → Showns
 joined no_showns ys = ys
 joined (shown x xs) ys = shown x (joined xs ys)
 
--- single blanks between the parts of a list, none inside a bracket; `before` stands before the first part
+-- single blanks between the parts of a list, none inside a bracket; `before` is before the first part
 abbrev mutual
   pub text_of : Shown → List ℕ
   text_of (word w) = w

@@ -1,7 +1,7 @@
 -- Terms and scopes whose names can be spelled (SMT-LIB 2.6, section 3.1).
 use Rattle.std.specs.Prelude.{ℕ, false, IsTrue, List}
 use Rattle.std.specs.List.{AllByRecursion}
-use Rattle.moxi_sexpr.specs.Atoms.{may_stand}
+use Rattle.moxi_sexpr.specs.Atoms.{may_appear}
 use Rattle.moxi_sexpr.specs.Printing.{symbol_spelling}
 use Rattle.moxi_terms.specs.Names.{all_constants, enumeration_names, function_names}
 use Rattle.moxi_terms.specs.Tree.{Tree, constant, variable, bound, apply, binding, call, Trees, no_trees, tree}
@@ -12,7 +12,7 @@ use Rattle.moxi_term_print.specs.Shown.{CanBeShown}
 use Rattle.moxi_term_print.specs.Terms.{shown_term}
 
 abbrev pub IsSpellable : List ℕ → Type 0
-IsSpellable name = IsTrue (may_stand (symbol_spelling name false) name)
+IsSpellable name = IsTrue (may_appear (symbol_spelling name false) name)
 
 abbrev pub AreSpellable : List (List ℕ) → Type 0
 AreSpellable names = AllByRecursion IsSpellable names

@@ -14,32 +14,32 @@ ghost use Rattle.moxi_terms.specs.View.{ScopeState};
 ghost use Rattle.moxi_term_reading.specs.WellSorted.{HaveKnownSorts};
 ghost use Rattle.moxi_term_print.specs.Shown.{CanBeShown, Shows};
 ghost use Rattle.moxi_term_print.specs.Terms.{shown_sort, shown_term};
-ghost use Rattle.moxi_term_print.specs.Standing.{Stands};
+ghost use Rattle.moxi_term_print.specs.WellScoped.{IsWellScoped};
 ghost use Rattle.moxi_term_print.specs.StandingGrows.{Grows, IsReadAgain, in_scope, sorts_first};
 ghost use Rattle.moxi_term_print.specs.StandingNames.{AreSpellable, IsSpellable, IsSpellableScope, NamesAreSpellable, TermCanBeShown};
-ghost use Rattle.moxi_term_print.specs.StandingReads.{HasSortNames, IsStanding, StandsSort, whole};
+ghost use Rattle.moxi_term_print.specs.WellScopedReads.{HasSortNames, IsWellScopedReading, IsKnownSort, whole};
 
 /// Proves that a form that shows a term standing in its context parses to this term (SMT-LIB 2.6, section 3.6).
 ///
 /// It has the term's sort and no failing test.
 pub fn shown_terms_are_read()
-    ensures { (c : Context) (bounds : List Local) (t : Tree) (s : Sort) (f : Form) → Stands c bounds t s → Shows f (shown_term c.scope (names_of c.variables) (names_of bounds) t) → read c bounds f ≡ whole t s }
+    ensures { (c : Context) (bounds : List Local) (t : Tree) (s : Sort) (f : Form) → IsWellScoped c bounds t s → Shows f (shown_term c.scope (names_of c.variables) (names_of bounds) t) → read c bounds f ≡ whole t s }
 {}
 
-/// Proves that a form without a failing test parses to a term that stands in this context, with the sort that is read for
+/// Proves that a form without a failing test parses to a term that is in this context, with the sort that is read for
 /// it.
 ///
 /// The variables and bound names must have sorts.
 pub fn read_terms_stand()
-    ensures { (c : Context) (bounds : List Local) (vars ss : List Sort) (f : Form) → HaveKnownSorts c.variables vars → HaveKnownSorts bounds ss → (read c bounds f).failures ≡ [] → IsStanding c bounds (read c bounds f) }
+    ensures { (c : Context) (bounds : List Local) (vars ss : List Sort) (f : Form) → HaveKnownSorts c.variables vars → HaveKnownSorts bounds ss → (read c bounds f).failures ≡ [] → IsWellScopedReading c bounds (read c bounds f) }
 {}
 
 /// Proves that a form that shows a sort whose name denotes it parses to this sort (SMT-LIB 2.6, section 3.5).
 ///
 /// If the enumerations have distinct names other than `Bool`, the name of each of the scope's sorts denotes it.
 pub fn shown_sorts_are_read()
-    ensures read { (s : ScopeState) (around : Place) (sort : Sort) (f : Form) → StandsSort s sort → Shows f (shown_sort s sort) → sort_reading s around f ≡ Ok sort }
-    ensures stand { (s : ScopeState) (sort : Sort) → HasSortNames s → IsSort s.enumerations sort → StandsSort s sort }
+    ensures read { (s : ScopeState) (around : Place) (sort : Sort) (f : Form) → IsKnownSort s sort → Shows f (shown_sort s sort) → sort_reading s around f ≡ Ok sort }
+    ensures stand { (s : ScopeState) (sort : Sort) → HasSortNames s → IsSort s.enumerations sort → IsKnownSort s sort }
 {}
 
 /// Proves that the printed form of a term that was read parses to this term, with its sort.
@@ -49,12 +49,12 @@ pub fn read_terms_are_read_again()
     ensures { (c : Context) (bounds : List Local) (vars ss : List Sort) (f : Form) (u : ScopeState) (g : Form) → HaveKnownSorts c.variables vars → HaveKnownSorts bounds ss → (read c bounds f).failures ≡ [] → IsReadAgain c bounds f u g }
 {}
 
-/// Proves that a term that stands in a context still does after its scope has grown.
+/// Proves that a term that is in a context still does after its scope has grown.
 ///
 /// The name of a sort also denotes the same sort.
 pub fn terms_stand_on()
-    ensures terms { (c : Context) (bounds : List Local) (t : Tree) (s : Sort) (u : ScopeState) → Stands c bounds t s → Grows c.scope u → Stands (in_scope c u) bounds t s }
-    ensures sorts { (s u : ScopeState) (sort : Sort) → IsSort s.enumerations sort → StandsSort s sort → Grows s u → StandsSort u sort }
+    ensures terms { (c : Context) (bounds : List Local) (t : Tree) (s : Sort) (u : ScopeState) → IsWellScoped c bounds t s → Grows c.scope u → IsWellScoped (in_scope c u) bounds t s }
+    ensures sorts { (s u : ScopeState) (sort : Sort) → IsSort s.enumerations sort → IsKnownSort s sort → Grows s u → IsKnownSort u sort }
 {}
 
 /// Proves that a scope grows with each enumeration, sort and function that may be added to it.
@@ -75,13 +75,13 @@ pub fn read_names_are_spellable()
     ensures { (c : Context) (bounds : List Local) (f : Form) → IsPrintable f → NamesAreSpellable (read c bounds f).term }
 {}
 
-/// Proves that a term that stands in its context, and a sort whose name denotes it, can be shown.
+/// Proves that a term that is in its context, and a sort whose name denotes it, can be shown.
 ///
 /// Their names must be ones that can be spelled.
 pub fn standing_terms_can_be_shown()
-    ensures terms { (c : Context) (bounds : List Local) (t : Tree) (s : Sort) → IsSpellableScope c.scope → AreSpellable (names_of c.variables) → AreSpellable (names_of bounds) → Stands c bounds t s
+    ensures terms { (c : Context) (bounds : List Local) (t : Tree) (s : Sort) → IsSpellableScope c.scope → AreSpellable (names_of c.variables) → AreSpellable (names_of bounds) → IsWellScoped c bounds t s
         → NamesAreSpellable t → TermCanBeShown c bounds t }
-    ensures sorts { (s : ScopeState) (sort : Sort) → IsSpellableScope s → StandsSort s sort → CanBeShown (shown_sort s sort) }
+    ensures sorts { (s : ScopeState) (sort : Sort) → IsSpellableScope s → IsKnownSort s sort → CanBeShown (shown_sort s sort) }
 {}
 
 /// Proves that the enumerations of a scope have distinct names other than `Bool`.

@@ -37,7 +37,7 @@ there_step n x xs f o true ih e =
     (0, x, (let h : n ≡ f.number = ap (λ (g : Found). g.number) s in omega arith), refl, sym (ap (λ (g : Found). g.sort) s))
 there_step n x xs f o false ih e = let r = ih e in (suc r.0, r.1, omega (arith, r.2), r.3, r.4)
 
--- the sort of what was found stands at its number
+-- the sort of what was found is at its number
 pub first_there : (n : ℕ) (xs : List Local) (q : List ℕ) (f : Found) → first_of n xs q ≡ Some f → There n xs f
 first_there n [] q f e = absurd (none-some f e)
 first_there n (x ∷ xs) q f e = there_step n x xs f (first_of (suc n) xs q) (bytes_eq q x.name) (λ e. first_there (suc n) xs q f e) e

@@ -43,7 +43,7 @@ pub record AreRead (x : Arguments) (r : ReadArguments) (own : List Sort) : Type 
   pub sorts : kept r.whole own ≡ x.sorts
   pub failure : r.failure ≡ least x.failures
 
--- the arguments, whose sorts stand on the stack behind those before
+-- the arguments, whose sorts are on the stack behind those before
 pub record AreStacked (x : Arguments) (r : ReadArguments) (before all : List Sort) : Type 0 where
   pub own : List Sort
   pub stack : all ≡ before ++ own

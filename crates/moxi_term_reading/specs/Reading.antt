@@ -111,12 +111,12 @@ abbrev pub literal_digits : List ℕ → Option (List ℕ)
 literal_digits (b ∷ c ∷ bs) = if (b == 98) && (c == 118) then decimal_digits bs else None
 literal_digits bs = None
 
--- what stands behind `bvN`, whose digits are these: the numeral of the width
+-- what is behind `bvN`, whose digits are these: the numeral of the width
 abbrev pub literal_reading : Place → List ℕ → List Refusal → Option (List ℕ) → Reading
 literal_reading p digits fs None = failed (refusal 12 p)
 literal_reading p digits fs (Some width) = word_reading p (read_word (index_of width) 10 digits) fs
 
--- behind the `_` at q of a term at p, a name with these digits, and what stands behind it
+-- behind the `_` at q of a term at p, a name with these digits, and what is behind it
 abbrev pub literal_named : Place → Place → List ℕ → List Refusal → Option (List ℕ) → form.Trees → Reading
 literal_named p q name fs None ts = failed (unknown (is_one_of left_out_operators name) p q)
 literal_named p q name fs (Some digits) ts = literal_reading p digits fs (only_numeral ts)
@@ -126,7 +126,7 @@ abbrev pub symbol_underscored : Place → Place → Bool → Place → Option (L
 symbol_underscored p q first r None ts = failed (refusal 4 q)
 symbol_underscored p q first r (Some x) ts = literal_named p q x.0 (prime_failures first q ++ prime_failures x.1 r) (literal_digits x.0) ts
 
--- what stands behind the `_` at q of a term at p
+-- what is behind the `_` at q of a term at p
 abbrev pub underscore_reading : Place → Place → Bool → form.Trees → Reading
 underscore_reading p q first form.no_trees = failed (refusal 4 q)
 underscore_reading p q first (form.tree t ts) = symbol_underscored p q first (place_in t) (symbol_of t) ts
@@ -155,12 +155,12 @@ paired_head q (Some x) = extracted_head q (numeral_of x.0) (numeral_of x.1)
 abbrev pub indexed_head : Place → List ℕ → form.Trees → Result Head HeadFailure
 indexed_head q name ts = if bytes_eq name (codes "extract") then paired_head q (pair_of ts) else extended_head q name (only_numeral ts)
 
--- behind the `_` of a head at q, in a term at p, the symbol, and what stands behind it
+-- behind the `_` of a head at q, in a term at p, the symbol, and what is behind it
 abbrev pub symbol_head : Place → Place → Option (List ℕ × Bool) → form.Trees → Result Head HeadFailure
 symbol_head p q None ts = Err (Unknown (refusal 4 q))
 symbol_head p q (Some x) ts = if is_one_of indexed_operators x.0 then indexed_head q x.0 ts else Err (Unknown (unknown (is_one_of left_out_operators x.0) p q))
 
--- what stands behind the first form of a head at q
+-- what is behind the first form of a head at q
 abbrev pub listed_head : Place → Place → form.Trees → Result Head HeadFailure
 listed_head p q form.no_trees = Err (Unknown (refusal 4 q))
 listed_head p q (form.tree t ts) = symbol_head p q (symbol_of t) ts
@@ -274,7 +274,7 @@ binding_of p t (Some x) r = bound_to x.0 (prime_failures x.1 (place_in t)) r
 abbrev pub both_bindings : Bindings → Bindings → Bindings
 both_bindings x y = record { locals = x.locals ++ y.locals; terms = x.terms ++ y.terms; shape = x.shape ++ y.shape; failures = x.failures ++ y.failures }
 
--- one or more bindings stand in the list at q
+-- one or more bindings are in the list at q
 abbrev pub bindings_tests : Place → form.Trees → List Refusal
 bindings_tests q form.no_trees = refusal 12 q ∷ []
 bindings_tests q (form.tree b bs) = []

@@ -41,7 +41,7 @@ abbrev pub width_sort : ℕ → Place → Place → Bool → Place → Bool → 
 width_sort w p q first r second =
     if is_width w then (if first then Err (refusal 7 q) else (if second then Err (refusal 7 r) else Ok (Bits w))) else Err (refusal 8 p)
 
--- what stands behind `BitVec`
+-- what is behind `BitVec`
 abbrev pub vector_sort : Place → Place → Bool → Place → Bool → Option (List ℕ) → Result Sort Refusal
 vector_sort p q first r second None = Err (refusal 12 p)
 vector_sort p q first r second (Some digits) = width_sort (index_of digits) p q first r second
@@ -55,19 +55,19 @@ abbrev pub unknown_indexed : Bool → Place → Place → Bool → Place → Ref
 unknown_indexed true p q first r = refusal 6 p
 unknown_indexed false p q first r = if first then refusal 7 q else refusal 4 r
 
--- behind the `_` at q of a sort at p, the symbol at r, and what stands behind it; a sort without indices takes none
+-- behind the `_` at q of a sort at p, the symbol at r, and what is behind it; a sort without indices takes none
 abbrev pub symbol_indexed : ScopeState → Place → Place → Bool → Place → Option (List ℕ × Bool) → form.Trees → Result Sort Refusal
 symbol_indexed s p q first r None ts = Err (refusal 12 p)
 symbol_indexed s p q first r (Some x) ts =
     if bytes_eq x.0 (codes "BitVec") then vector_sort p q first r x.1 (only_numeral ts)
     else (if is_some (sort_named s x.0) then Err (refusal 12 p) else Err (unknown_indexed (is_one_of left_out_sorts x.0) p q first r))
 
--- what stands behind the `_` at q of a sort at p
+-- what is behind the `_` at q of a sort at p
 abbrev pub indexed_sort : ScopeState → Place → Place → Bool → form.Trees → Result Sort Refusal
 indexed_sort s p q first form.no_trees = Err (refusal 12 p)
 indexed_sort s p q first (form.tree t ts) = symbol_indexed s p q first (place_in t) (symbol_of t) ts
 
--- a list at p in a sort's place, that has this symbol at its head at q; a sort without indices stands in no list
+-- a list at p in a sort's place, that has this symbol at its head at q; a sort without indices is in no list
 abbrev pub listed_sort : ScopeState → Place → Place → Option (List ℕ × Bool) → form.Trees → Result Sort Refusal
 listed_sort s p q None ts = Err (refusal 12 p)
 listed_sort s p q (Some x) ts =
@@ -79,7 +79,7 @@ abbrev pub atom_sort : ScopeState → Place → Place → Option (List ℕ × Bo
 atom_sort s around p None = Err (refusal 12 around)
 atom_sort s around p (Some x) = symbol_sort (sort_named s x.0) x.0 x.1 p
 
--- The sort that a form spells, or the failing test with the least place; the form stands in a list at `around`.
+-- The sort that a form spells, or the failing test with the least place; the form is in a list at `around`.
 abbrev pub sort_reading : ScopeState → Place → form.Tree → Result Sort Refusal
 sort_reading s around (form.atom p a) = atom_sort s around p (symbol_atom a)
 sort_reading s around (form.list p form.no_trees) = Err (refusal 12 p)

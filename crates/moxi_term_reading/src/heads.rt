@@ -85,7 +85,7 @@ pub enum HeadFailure {
     Misshapen(Place),
 }
 
-// No head stands at q.
+// No head is at q.
 fn unknown_head(q: Place) -> HeadFailure
     ensures { result ≡ Unknown (refusal 4 q) }
 {
@@ -153,7 +153,7 @@ fn indexed_head(q: Place, name: &[u8], indices: &[Form]) -> Result<Head, HeadFai
     }
 }
 
-// What stands behind the `_` of a head at q, in a term at p.
+// What is behind the `_` of a head at q, in a term at p.
 fn listed_head(p: Place, q: Place, rest: &[Form]) -> Result<Head, HeadFailure>
     ensures { result ≡ listed_head p q (plain_forms rest.now) }
 {

@@ -63,7 +63,7 @@ from_there n (x ∷ xs) q k e =
       | inr f ↦ let r = from_there (suc n) xs q k (sym (ap (λ b. cond b (Some n) (place_from (suc n) xs q)) f) ∙ e) in (suc r.0, omega (arith, r.1), r.2)
     ]
 
--- what stands at the place that was found
+-- what is at the place that was found
 pub place_there : (xs : List (List ℕ)) (q : List ℕ) (k : ℕ) → place_of xs q ≡ Some k → slice_get xs k ≡ Some q
 place_there xs q k e =
     let r = from_there 0 xs q k (sym (place_is xs q) ∙ e) in
@@ -77,7 +77,7 @@ index_read [] k x d e = absurd (none-some x e)
 index_read (y ∷ ys) zero x d e = same_Some y x e
 index_read (y ∷ ys) (suc k) x d e = index_read ys k x d e
 
--- an element of a front, and what stands behind it
+-- an element of a front, and what is behind it
 pub get_front : {A : Type 0} (xs ys : List A) (k : ℕ) → k < length xs → slice_get (xs ++ ys) k ≡ slice_get xs k
 get_front [] ys k h = absurd (omega arith)
 get_front (x ∷ xs) ys zero h = refl
@@ -104,6 +104,6 @@ length_taken zero xs h = refl
 length_taken (suc n) [] h = absurd (omega arith)
 length_taken (suc n) (x ∷ xs) h = ap suc (length_taken n xs (omega arith))
 
--- an element of a front that something stands behind
+-- an element of a front that something is behind
 pub get_kept : {A : Type 0} (n : ℕ) (xs ys : List A) (k : ℕ) → n ≤ length xs → k < n → slice_get (take n xs ++ ys) k ≡ slice_get xs k
 get_kept n xs ys k l h = get_front (take n xs) ys k (omega (arith, length_taken n xs l)) ∙ get_taken n xs k h

@@ -18,7 +18,7 @@ use Rattle.moxi_terms.specs.Names.{enumeration_names, sort_names, function_names
 use Rattle.name_maps.specs.Names.{place_of}
 use Rattle.moxi_terms.specs.Words.{is_operator}
 use Rattle.std.specs.Str.{bytes_eq}
-use Rattle.moxi_terms.specs.Scopes.{IsKept}
+use Rattle.moxi_terms.specs.Scopes.{IsNameIndex}
 use Rattle.moxi_terms.proofs.PlaceLaws.{get_front, get_taken, take_whole, length_taken, place_within}
 
 pub map_end : {A B : Type 0} (f : A → B) (xs : List A) (x : A) → map f (xs ++ x ∷ []) ≡ map f xs ++ f x ∷ []
@@ -53,8 +53,8 @@ functions_end es fs f a is n g h = elim (append_cases fs f g n h) [
 ]
 
 -- one more function
-pub kept_function : (s : ScopeState) (e so f c : List (List ℕ)) (n : List (ℕ × ℕ)) (g : PlainFunction) → IsKept s e so f c n → IsFunction s.enumerations s.functions g → length s.functions < 2 ^ 32 - 1
-    → IsKept (with_function s g) e so (f ++ g.name ∷ []) c n
+pub kept_function : (s : ScopeState) (e so f c : List (List ℕ)) (n : List (ℕ × ℕ)) (g : PlainFunction) → IsNameIndex s e so f c n → IsFunction s.enumerations s.functions g → length s.functions < 2 ^ 32 - 1
+    → IsNameIndex (with_function s g) e so (f ++ g.name ∷ []) c n
 kept_function s e so f c n g k is few = record {
   scope = record {
     enumerations = k.scope.enumerations;
@@ -141,9 +141,9 @@ numbers_long n (x ∷ xs) =
     ∙ ap (λ k. length x.constants + k) (numbers_long (suc n) xs) ∙ sym (length-append x.constants (all_constants xs))
 
 -- one more enumeration
-pub kept_enumeration : (s : ScopeState) (e so f c : List (List ℕ)) (n m : List (ℕ × ℕ)) (x : Enumeration) → IsKept s e so f c n → 0 < length x.constants → length s.enumerations < 2 ^ 32 - 1
+pub kept_enumeration : (s : ScopeState) (e so f c : List (List ℕ)) (n m : List (ℕ × ℕ)) (x : Enumeration) → IsNameIndex s e so f c n → 0 < length x.constants → length s.enumerations < 2 ^ 32 - 1
     → length (all_constants s.enumerations) + length x.constants < 2 ^ 32 → m ≡ take (length c) n ++ numbered (length s.enumerations) 0 x.constants
-    → IsKept (with_enumeration s x.name x.constants) (e ++ x.name ∷ []) so f (c ++ x.constants) m
+    → IsNameIndex (with_enumeration s x.name x.constants) (e ++ x.name ∷ []) so f (c ++ x.constants) m
 kept_enumeration s e so f c n m x k some few room g =
     let es = s.enumerations in
     let front : take (length c) n ≡ constant_numbers 0 es = ap (λ c. take (length c) n) k.constant_names ∙ k.constant_numbers in
@@ -166,7 +166,7 @@ kept_enumeration s e so f c n m x k some few room g =
       few_constants = omega (arith, ap length (constants_end es x), length-append (all_constants es) x.constants, room);
     }
 
-pub numbers_within : (s : ScopeState) (e so f c : List (List ℕ)) (n : List (ℕ × ℕ)) → IsKept s e so f c n → length c ≤ length n
+pub numbers_within : (s : ScopeState) (e so f c : List (List ℕ)) (n : List (ℕ × ℕ)) → IsNameIndex s e so f c n → length c ≤ length n
 numbers_within s e so f c n k =
     let all = length (all_constants s.enumerations) in
     let same : length c ≡ all = ap length k.constant_names in
@@ -192,7 +192,7 @@ numbered_take n cs i h =
     let l : length (take i cs) ≡ i = length_taken i cs (omega arith) in
     ap (numbered n 0) r.1 ∙ numbered_end n 0 (take i cs) r.0 ∙ ap (λ k. numbered n 0 (take i cs) ++ (n, k) ∷ []) (omega (arith, l))
 
-pub constant_read : (s : ScopeState) (e so f c : List (List ℕ)) (n : List (ℕ × ℕ)) (q : List ℕ) (p : ℕ) → IsKept s e so f c n → place_of c q ≡ Some p
+pub constant_read : (s : ScopeState) (e so f c : List (List ℕ)) (n : List (ℕ × ℕ)) (q : List ℕ) (p : ℕ) → IsNameIndex s e so f c n → place_of c q ≡ Some p
     → (x : ℕ × ℕ) × (slice_get n p ≡ Some x) × (constant_named s q ≡ Some x)
 constant_read s e so f c n q p k h =
     let all = length (all_constants s.enumerations) in

@@ -9,7 +9,7 @@ use Rattle.moxi_terms.specs.Names.{enumeration_names, sort_names, function_names
 use Rattle.moxi_terms.specs.Sorted.{IsScope}
 
 -- the names of what was added, in its order, and numbers for the constants; numbers behind theirs count for nothing
-pub record IsKept (s : ScopeState) (enumerations sorts functions constants : List (List ℕ)) (numbers : List (ℕ × ℕ)) : Type 0 where
+pub record IsNameIndex (s : ScopeState) (enumerations sorts functions constants : List (List ℕ)) (numbers : List (ℕ × ℕ)) : Type 0 where
   pub scope : IsScope s
   pub enumeration_names : enumerations ≡ enumeration_names s
   pub sort_names : sorts ≡ sort_names s

@@ -38,7 +38,7 @@ pub struct Scope {
 impl Model for Scope {
     ghost use Rattle.moxi_terms.specs.Code.{Node, tree_code};
     ghost use Rattle.moxi_terms.specs.View.{ScopeState, plain_function};
-    ghost use Rattle.moxi_terms.specs.Scopes.{IsKept};
+    ghost use Rattle.moxi_terms.specs.Scopes.{IsNameIndex};
     ghost use Rattle.std.specs.Coded.{Coded, codes};
     ghost use Rattle.std.specs.Prelude.{map};
 
@@ -48,7 +48,7 @@ impl Model for Scope {
 
     ghost view = { λ s. record { enumerations = s.enumerations; sorts = s.sorts; functions = map plain_function s.functions } };
 
-    ghost invariant = { λ s. IsKept (record { enumerations = s.enumerations; sorts = s.sorts; functions = map plain_function s.functions }) s.enumeration_names s.sort_names s.function_names s.constant_names s.constant_numbers.items };
+    ghost invariant = { λ s. IsNameIndex (record { enumerations = s.enumerations; sorts = s.sorts; functions = map plain_function s.functions }) s.enumeration_names s.sort_names s.function_names s.constant_names s.constant_numbers.items };
 }
 
 impl Scope {

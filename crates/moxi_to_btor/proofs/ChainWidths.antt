@@ -6,8 +6,8 @@ use Rattle.word_core.specs.declared.kinds.Binary.{Binary}
 use Rattle.word_core.specs.declared.kinds.Binary.TheVariants as two
 use Rattle.btor_tree.specs.declared.lines.Line.{Line}
 use Rattle.btor_tree.specs.Fits.{greatest_id}
-use Rattle.btor_tree.specs.Sharing.{GrowsQuietly}
-use Rattle.moxi_lines.specs.TermLines.{Made, chain_lines, compared_lines, folded_lines, implied_lines, neighbours, paired_lines, pairs_of, with_binary, with_implication}
+use Rattle.btor_tree.specs.Sharing.{GrowsByShared}
+use Rattle.moxi_lines.specs.TermLines.{Built, chain_lines, compared_lines, folded_lines, implied_lines, neighbours, paired_lines, pairs_of, with_binary, with_implication}
 use Rattle.moxi_lines.proofs.Growing.{grown_long, grown_none, grown_then}
 use Rattle.moxi_lines.proofs.Chains.{binary_grows, chain_grows, folded_grows, paired_grows}
 use Rattle.moxi_to_btor.specs.TermPutting.{CanChain, CanCompare, CanFold, CanImply, CanImplyAll, CanPair, implied_onto}
@@ -21,11 +21,11 @@ AreWide lines ps w = AllByRecursion (λ p. IsWide lines p w) ps
 abbrev pub PairsAreWide : List Line → List (ℕ × ℕ) → ℕ → Type 0
 PairsAreWide lines xs w = AllByRecursion (λ (x : ℕ × ℕ). IsWide lines x.0 w × IsWide lines x.1 w) xs
 
-later_all : (a b : List Line) (ps : List ℕ) (w : ℕ) → GrowsQuietly a b → AreWide a ps w → AreWide b ps w
+later_all : (a b : List Line) (ps : List ℕ) (w : ℕ) → GrowsByShared a b → AreWide a ps w → AreWide b ps w
 later_all a b [] w g h = tt
 later_all a b (p ∷ ps) w g h = (later_wide a b p w g h.0, later_all a b ps w g h.1)
 
-later_pairs : (a b : List Line) (xs : List (ℕ × ℕ)) (w : ℕ) → GrowsQuietly a b → PairsAreWide a xs w → PairsAreWide b xs w
+later_pairs : (a b : List Line) (xs : List (ℕ × ℕ)) (w : ℕ) → GrowsByShared a b → PairsAreWide a xs w → PairsAreWide b xs w
 later_pairs a b [] w g h = tt
 later_pairs a b (x ∷ xs) w g h = ((later_wide a b x.0 w g h.0.0, later_wide a b x.1 w g h.0.1), later_pairs a b xs w g h.1)
 
@@ -42,13 +42,13 @@ kept : (b : Binary) (lines : List Line) (p q w : ℕ) → Keeps b w → IsWide l
 kept b lines p q w k i j =
     subst (IsWide (with_binary b lines p q).0 (with_binary b lines p q).1) k.width (binary_wide b lines p q w w i j (omega (arith, k.width, i.low)) (omega (arith, k.width, i.high)))
 
-pub folded_wide : (b : Binary) (w : ℕ) → Keeps b w → (m : Made) (qs : List ℕ) → IsWide m.0 m.1 w → AreWide m.0 qs w → IsWide (folded_lines b m qs).0 (folded_lines b m qs).1 w
+pub folded_wide : (b : Binary) (w : ℕ) → Keeps b w → (m : Built) (qs : List ℕ) → IsWide m.0 m.1 w → AreWide m.0 qs w → IsWide (folded_lines b m qs).0 (folded_lines b m qs).1 w
 folded_wide b w k m [] h a = h
 folded_wide b w k m (q ∷ qs) h a =
     let n = with_binary b m.0 m.1 q in
     folded_wide b w k n qs (kept b m.0 m.1 q w k h a.0) (later_all m.0 n.0 qs w (binary_grows b m.0 m.1 q) a.1)
 
-pub folded_can : (b : Binary) (w : ℕ) → Keeps b w → (m : Made) (qs : List ℕ) → IsWide m.0 m.1 w → AreWide m.0 qs w → length (folded_lines b m qs).0 < greatest_id → CanFold b m qs
+pub folded_can : (b : Binary) (w : ℕ) → Keeps b w → (m : Built) (qs : List ℕ) → IsWide m.0 m.1 w → AreWide m.0 qs w → length (folded_lines b m qs).0 < greatest_id → CanFold b m qs
 folded_can b w k m [] h a room = tt
 folded_can b w k m (q ∷ qs) h a room =
     let n = with_binary b m.0 m.1 q in
@@ -67,22 +67,22 @@ chain_can b w k lines (p ∷ ps) a room = folded_can b w k (lines, p) ps a.0 a.1
 
 -- ---- implications
 
-implication_wide : (p : ℕ) (m : Made) → IsWide m.0 p 1 → IsWide m.0 m.1 1 → IsWide (with_implication p m).0 (with_implication p m).1 1
+implication_wide : (p : ℕ) (m : Built) → IsWide m.0 p 1 → IsWide m.0 m.1 1 → IsWide (with_implication p m).0 (with_implication p m).1 1
 implication_wide p m h i = binary_wide two.Implies m.0 p m.1 1 1 h i (omega arith) (omega arith)
 
-onto_grows : (ps : List ℕ) (m : Made) → GrowsQuietly m.0 (implied_onto ps m).0
+onto_grows : (ps : List ℕ) (m : Built) → GrowsByShared m.0 (implied_onto ps m).0
 onto_grows [] m = grown_none m.0
 onto_grows (p ∷ ps) m =
     let n = implied_onto ps m in
     grown_then m.0 n.0 (with_implication p n).0 (onto_grows ps m) (binary_grows two.Implies n.0 p n.1)
 
-pub onto_wide : (ps : List ℕ) (m : Made) → AreWide m.0 ps 1 → IsWide m.0 m.1 1 → IsWide (implied_onto ps m).0 (implied_onto ps m).1 1
+pub onto_wide : (ps : List ℕ) (m : Built) → AreWide m.0 ps 1 → IsWide m.0 m.1 1 → IsWide (implied_onto ps m).0 (implied_onto ps m).1 1
 onto_wide [] m a h = h
 onto_wide (p ∷ ps) m a h =
     let n = implied_onto ps m in
     implication_wide p n (later_wide m.0 n.0 p 1 (onto_grows ps m) a.0) (onto_wide ps m a.1 h)
 
-onto_can : (ps : List ℕ) (m : Made) → AreWide m.0 ps 1 → IsWide m.0 m.1 1 → length (implied_onto ps m).0 < greatest_id → CanImply ps m
+onto_can : (ps : List ℕ) (m : Built) → AreWide m.0 ps 1 → IsWide m.0 m.1 1 → length (implied_onto ps m).0 < greatest_id → CanImply ps m
 onto_can [] m a h room = tt
 onto_can (p ∷ ps) m a h room =
     let n = implied_onto ps m in
@@ -96,7 +96,7 @@ all_can lines ps a room before last e =
     let r = all_front (λ p. IsWide lines p 1) before last (subst (λ qs. AreWide lines qs 1) e a) in
     onto_can before (lines, last) r.0 r.1 (room before last e)
 
-implied_grows_wide : (lines : List Line) (p : ℕ) (ps : List ℕ) → IsWide lines p 1 → AreWide lines ps 1 → GrowsQuietly lines (implied_lines lines p ps).0 × IsWide (implied_lines lines p ps).0 (implied_lines lines p ps).1 1
+implied_grows_wide : (lines : List Line) (p : ℕ) (ps : List ℕ) → IsWide lines p 1 → AreWide lines ps 1 → GrowsByShared lines (implied_lines lines p ps).0 × IsWide (implied_lines lines p ps).0 (implied_lines lines p ps).1 1
 implied_grows_wide lines p [] h a = (grown_none lines, h)
 implied_grows_wide lines p (q ∷ qs) h a =
     let n = implied_lines lines q qs in

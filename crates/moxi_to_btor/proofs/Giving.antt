@@ -9,7 +9,7 @@ use Rattle.btor_tree.specs.declared.lines.Line.{Line}
 use Rattle.btor_tree.specs.declared.lines.LineOp.{LineOp}
 use Rattle.btor_tree.specs.declared.lines.LineOp.TheVariants as line
 use Rattle.btor_tree.specs.Fits.{IsWellFormed, Suits, greatest_id, is_init, is_next, is_state, kind_at, plain_arg, sort_at, state_value, value_for, width_at}
-use Rattle.btor_tree.specs.Sharing.{GrowsQuietly, is_shared, next_line, with_sort}
+use Rattle.btor_tree.specs.Sharing.{GrowsByShared, is_shared, next_line, with_sort}
 use Rattle.btor_tree.proofs.AtPlaces.{is_kind, width_of_line}
 use Rattle.btor_tree.proofs.Alike.{pushed_sort}
 use Rattle.btor_tree.proofs.Grows.{slice_get_end}
@@ -17,7 +17,7 @@ use Rattle.btor_tree.proofs.Paths.{fresh, kind_front, state_value_append}
 use Rattle.btor_tree.proofs.Widths.{sort_front, width_front}
 use Rattle.moxi_lines.proofs.Growing.{grown_long, grown_width, wide_inside}
 use Rattle.moxi_lines.specs.Lines.{symbol_byte, symbol_of, with_free, with_given}
-use Rattle.moxi_lines.specs.TermLines.{Made}
+use Rattle.moxi_lines.specs.TermLines.{Built}
 use Rattle.moxi_lines.proofs.VariableLines.{symbol_is}
 use Rattle.moxi_lines.proofs.Extending.{Extends, extends_then, quietly}
 use Rattle.moxi_to_btor.specs.Putting.{CanPutFree, CanPutGiven, CanPutTruth, IsOpen}
@@ -74,11 +74,11 @@ quiet_none : (kind : LineOp → Bool) → Gives kind → (more : List Line) (s :
 quiet_none kind g [] s a = refl
 quiet_none kind g (l ∷ more) s a = ap (λ b. option_or (cond b (value_for l.args s) None) (state_value kind more s)) (g.quiet l.op a.0) ∙ quiet_none kind g more s a.1
 
-grown_none : (kind : LineOp → Bool) → Gives kind → (a b : List Line) (p : ℕ) → GrowsQuietly a b → state_value kind a p ≡ None → state_value kind b p ≡ None
+grown_none : (kind : LineOp → Bool) → Gives kind → (a b : List Line) (p : ℕ) → GrowsByShared a b → state_value kind a p ≡ None → state_value kind b p ≡ None
 grown_none kind k a b p g h =
     ap (λ ls. state_value kind ls p) g.1 ∙ state_value_append kind a g.0 p ∙ ap (λ o. option_or o (state_value kind g.0 p)) h ∙ quiet_none kind k g.0 p g.2
 
-pub later_open : (kind : LineOp → Bool) → Gives kind → (a b : List Line) (p w : ℕ) → 1 ≤ w → GrowsQuietly a b → IsOpen kind a p w → IsOpen kind b p w
+pub later_open : (kind : LineOp → Bool) → Gives kind → (a b : List Line) (p w : ℕ) → 1 ≤ w → GrowsByShared a b → IsOpen kind a p w → IsOpen kind b p w
 later_open kind k a b p w low g h =
     record {
       state = ap (λ ls. kind_at is_state ls p) g.1 ∙ kind_front is_state a g.0 p h.state;
@@ -100,7 +100,7 @@ state_open kind k lines w name wf low =
       none = state_value_append kind s.0 (l ∷ []) (length s.0) ∙ ap (λ o. option_or o (state_value kind (l ∷ []) (length s.0))) before ∙ ap (λ b. option_or (cond b (value_for l.args (length s.0)) None) None) k.state;
     }
 
--- a state stands behind the lines before it
+-- a state is behind the lines before it
 pub state_place : (lines : List Line) (w : ℕ) (name : List ℕ) → length lines ≤ (with_free lines line.State w name).1
 state_place lines w name = grown_long lines (with_sort lines w).0 (sort_grows lines w)
 
@@ -162,9 +162,9 @@ bad_suits lines p name args symbol c e f =
     subst (λ args. Suits lines line.Bad 0 args symbol) (sym e) (subst (λ s. Suits lines line.Bad 0 (plain_arg p ∷ []) s) (sym f)
     (record { earlier = (wide_inside lines p 1 (omega arith) c.width, tt); sorts = (refl, c.width); symbol = symbol_is name }))
 
-pub free_suits : (lines : List Line) (o : LineOp) (w : ℕ) (name : List ℕ) (m : Made) (args : List Arg) (symbol : Option (List ℕ)) → CanPutFree lines o w name → m ≡ with_sort lines w → args ≡ [] → symbol ≡ symbol_of name → Suits m.0 o m.1 args symbol
+pub free_suits : (lines : List Line) (o : LineOp) (w : ℕ) (name : List ℕ) (m : Built) (args : List Arg) (symbol : Option (List ℕ)) → CanPutFree lines o w name → m ≡ with_sort lines w → args ≡ [] → symbol ≡ symbol_of name → Suits m.0 o m.1 args symbol
 free_suits lines o w name m args symbol c e f g =
-    subst (λ (m : Made). Suits m.0 o m.1 args symbol) (sym e) (subst (λ args. Suits (with_sort lines w).0 o (with_sort lines w).1 args symbol) (sym f) (subst (λ s. Suits (with_sort lines w).0 o (with_sort lines w).1 [] s) (sym g)
+    subst (λ (m : Built). Suits m.0 o m.1 args symbol) (sym e) (subst (λ args. Suits (with_sort lines w).0 o (with_sort lines w).1 args symbol) (sym f) (subst (λ s. Suits (with_sort lines w).0 o (with_sort lines w).1 [] s) (sym g)
     (record { earlier = tt; sorts = c.fits; symbol = symbol_is name })))
 
 pub ok_same : {A E : Type 0} (r : Result A E) (x a b : List Line) → a ≡ b → OnOk r (x ≡ a) → OnOk r (x ≡ b)

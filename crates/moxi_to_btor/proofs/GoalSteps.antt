@@ -7,12 +7,12 @@ use Rattle.std.proofs.lemmas.List.{length-append}
 use Rattle.word_core.specs.declared.kinds.Binary.TheVariants as two
 use Rattle.btor_tree.specs.declared.lines.Line.{Line}
 use Rattle.btor_tree.specs.Fits.{greatest_id, width_at}
-use Rattle.btor_tree.specs.Sharing.{GrowsQuietly}
+use Rattle.btor_tree.specs.Sharing.{GrowsByShared}
 use Rattle.moxi_scripts.specs.declared.script.Query.{Query}
 use Rattle.moxi_scripts.specs.Script.{formula_at}
 use Rattle.moxi_scripts.specs.QueryReading.{some_distinct}
 use Rattle.moxi_flat.specs.FlatSystem.{PlainFlatSystem}
-use Rattle.moxi_lines.specs.TermLines.{Made, chain_lines, with_binary}
+use Rattle.moxi_lines.specs.TermLines.{Built, chain_lines, with_binary}
 use Rattle.moxi_lines.proofs.Growing.{grown_long, grown_none, grown_then}
 use Rattle.moxi_lines.proofs.Chains.{binary_grows, chain_grows}
 use Rattle.moxi_to_btor.specs.TermPutting.{CanChain, CanPutBinary}
@@ -29,25 +29,25 @@ use Rattle.moxi_to_btor.proofs.QuerySteps.{all_reached, and_keeps, formulas_long
 -- ---- all formulas
 
 module _ (m : Reaching) (before : List ℕ) where
-  abbrev all_m : Made
+  abbrev all_m : Built
   all_m = chain_lines two.And m.lines (before ++ m.seen)
 
-  abbrev some_m : Made
+  abbrev some_m : Built
   some_m = chain_lines two.Or all_m.0 m.formulas
 
-  abbrev both_m : Made
+  abbrev both_m : Built
   both_m = with_binary two.And some_m.0 all_m.1 some_m.1
 
-  all_grows : GrowsQuietly m.lines all_m.0
+  all_grows : GrowsByShared m.lines all_m.0
   all_grows = chain_grows two.And m.lines (before ++ m.seen)
 
-  some_grows : GrowsQuietly all_m.0 some_m.0
+  some_grows : GrowsByShared all_m.0 some_m.0
   some_grows = chain_grows two.Or all_m.0 m.formulas
 
-  both_grows : GrowsQuietly some_m.0 both_m.0
+  both_grows : GrowsByShared some_m.0 both_m.0
   both_grows = binary_grows two.And some_m.0 all_m.1 some_m.1
 
-  pub all_met_grows : GrowsQuietly m.lines (with_all_met m before).0
+  pub all_met_grows : GrowsByShared m.lines (with_all_met m before).0
   all_met_grows = grown_then m.lines all_m.0 both_m.0 all_grows (grown_then all_m.0 some_m.0 both_m.0 some_grows both_grows)
 
   module _ (c : CanPutAllMet m before) where
@@ -69,25 +69,25 @@ module _ (m : Reaching) (before : List ℕ) where
     met_chain parts e =
         subst (CanChain two.And m.lines) (sym e) (chain_can two.And 1 and_keeps m.lines (before ++ m.seen) (truths_wide m.lines (before ++ m.seen) (truths_append m.lines before m.seen c.before_truths c.seen_truths)) all_room)
 
-    pub some_chain : (a : Made) → a ≡ all_m → CanChain two.Or a.0 m.formulas
+    pub some_chain : (a : Built) → a ≡ all_m → CanChain two.Or a.0 m.formulas
     some_chain a e =
-        subst (λ (a : Made). CanChain two.Or a.0 m.formulas) (sym e)
+        subst (λ (a : Built). CanChain two.Or a.0 m.formulas) (sym e)
         (chain_can two.Or 1 or_keeps all_m.0 m.formulas (truths_wide all_m.0 m.formulas (truths_later m.lines all_m.0 m.formulas (quietly m.lines all_m.0 all_grows) c.formula_truths)) some_room)
 
-    pub both_can : (a s : Made) → a ≡ all_m → s ≡ some_m → CanPutBinary two.And s.0 a.1 s.1
+    pub both_can : (a s : Built) → a ≡ all_m → s ≡ some_m → CanPutBinary two.And s.0 a.1 s.1
     both_can a s e g =
-        subst (λ (s : Made). CanPutBinary two.And s.0 a.1 s.1) (sym g) (subst (λ (a : Made). CanPutBinary two.And some_m.0 a.1 some_m.1) (sym e)
+        subst (λ (s : Built). CanPutBinary two.And s.0 a.1 s.1) (sym g) (subst (λ (a : Built). CanPutBinary two.And some_m.0 a.1 some_m.1) (sym e)
         (binary_can two.And some_m.0 all_m.1 some_m.1 1 1 all_wide some_wide refl (omega arith) (omega arith) c.room))
 
-    pub both_is : (a s : Made) → a ≡ all_m → s ≡ some_m → with_binary two.And s.0 a.1 s.1 ≡ with_all_met m before
-    both_is a s e g = ap (λ (s : Made). with_binary two.And s.0 a.1 s.1) g ∙ ap (λ (a : Made). with_binary two.And some_m.0 a.1 some_m.1) e
+    pub both_is : (a s : Built) → a ≡ all_m → s ≡ some_m → with_binary two.And s.0 a.1 s.1 ≡ with_all_met m before
+    both_is a s e g = ap (λ (s : Built). with_binary two.And s.0 a.1 s.1) g ∙ ap (λ (a : Built). with_binary two.And some_m.0 a.1 some_m.1) e
 
     pub all_met_truth : width_at (with_all_met m before).0 (with_all_met m before).1 ≡ 1
     all_met_truth = (binary_wide two.And some_m.0 all_m.1 some_m.1 1 1 all_wide some_wide (omega arith) (omega arith)).width
 
 -- ---- one formula
 
-pub one_met_grows : (m : Made) (before : List ℕ) → GrowsQuietly m.0 (with_one_met m before).0
+pub one_met_grows : (m : Built) (before : List ℕ) → GrowsByShared m.0 (with_one_met m before).0
 one_met_grows m [] = grown_none m.0
 one_met_grows m (p ∷ ps) = binary_grows two.And m.0 p m.1
 
@@ -98,7 +98,7 @@ pub one_met_first : (lines : List Line) (p q : ℕ) (before : List ℕ) → CanP
 one_met_first lines p q [] c e = absurd (none-some q (sym e))
 one_met_first lines p q (r ∷ ps) c e = subst (λ r. CanPutBinary two.And lines r p) (sym (same_Some q r e)) (one_met_binary lines p r ps c)
 
-pub one_met_truth : (m : Made) (before : List ℕ) → AreTruths m.0 before → width_at m.0 m.1 ≡ 1 → width_at (with_one_met m before).0 (with_one_met m before).1 ≡ 1
+pub one_met_truth : (m : Built) (before : List ℕ) → AreTruths m.0 before → width_at m.0 m.1 ≡ 1 → width_at (with_one_met m before).0 (with_one_met m before).1 ≡ 1
 one_met_truth m [] a e = e
 one_met_truth m (p ∷ ps) a e = (binary_wide two.And m.0 p m.1 1 1 (truth_wide m.0 p a.0) (truth_wide m.0 m.1 e) (omega arith) (omega arith)).width
 
@@ -117,7 +117,7 @@ module _ (f : PlainFlatSystem) (inputs : List ℕ) (q : Query) (before : List �
   abbrev start : Reaching
   start = reaching lines [] []
 
-  abbrev several : List ℕ → Made
+  abbrev several : List ℕ → Built
   several rs = with_all_met (with_reachables f inputs q.name start rs) before
 
   pub goal_several : (rs : List ℕ) → (length rs ≡ 1 → ⊥) → with_goal f inputs q before lines rs ≡ several rs
@@ -185,14 +185,14 @@ module _ (f : PlainFlatSystem) (inputs : List ℕ) (q : Query) (before : List �
     pub goal_numbered : (r : ℕ) → q.reachables ≡ r ∷ [] → CanPutNumbered f.scope inputs lines f.reachables r
     goal_numbered r e = numbered_can c.ready c.before_truths r (subst (λ rs. AllByRecursion (λ (i : ℕ). i < length f.reachables) rs) e c.whole.reachables_there).0 (single_room r e)
 
-    pub goal_one : (r : ℕ) (m : Made) → q.reachables ≡ r ∷ [] → m ≡ with_formula f.scope inputs lines (formula_at f.reachables r) → CanPutOneMet m.0 m.1 before
-    goal_one r m e g = subst (λ (m : Made). CanPutOneMet m.0 m.1 before) (sym g) (one_met_can c.ready c.before_truths r (single_room r e))
+    pub goal_one : (r : ℕ) (m : Built) → q.reachables ≡ r ∷ [] → m ≡ with_formula f.scope inputs lines (formula_at f.reachables r) → CanPutOneMet m.0 m.1 before
+    goal_one r m e g = subst (λ (m : Built). CanPutOneMet m.0 m.1 before) (sym g) (one_met_can c.ready c.before_truths r (single_room r e))
 
-    pub goal_one_is : (r : ℕ) (m : Made) → q.reachables ≡ r ∷ [] → m ≡ with_formula f.scope inputs lines (formula_at f.reachables r) → with_one_met m before ≡ with_goal f inputs q before lines q.reachables
+    pub goal_one_is : (r : ℕ) (m : Built) → q.reachables ≡ r ∷ [] → m ≡ with_formula f.scope inputs lines (formula_at f.reachables r) → with_one_met m before ≡ with_goal f inputs q before lines q.reachables
     goal_one_is r m e g = ap (λ m. with_one_met m before) g ∙ sym (ap (with_goal f inputs q before lines) e)
 
     pub goal_several_can : (length q.reachables ≡ 1 → ⊥) → CanPutSeveral f inputs q before lines
-    goal_several_can h = record { ready = c.ready; whole = c.whole; before_truths = c.before_truths; room = subst (λ (m : Made). length m.0 < greatest_id) (goal_several q.reachables h) c.room }
+    goal_several_can h = record { ready = c.ready; whole = c.whole; before_truths = c.before_truths; room = subst (λ (m : Built). length m.0 < greatest_id) (goal_several q.reachables h) c.room }
 
   module _ (c : CanPutSeveral f inputs q before lines) where
     pub several_reachables : CanPutReachables f inputs q.name start q.reachables
@@ -213,13 +213,13 @@ module _ (f : PlainFlatSystem) (inputs : List ℕ) (q : Query) (before : List �
 -- ---- queries
 
 module _ (f : PlainFlatSystem) (inputs : List ℕ) (lines : List Line) (q : Query) where
-  abbrev chain_m : Made
+  abbrev chain_m : Built
   chain_m = with_conditions f inputs lines q
 
-  abbrev held_m : Made
+  abbrev held_m : Built
   held_m = with_goal f inputs q (chain_m.1 ∷ []) chain_m.0 q.reachables
 
-  abbrev free_m : Made
+  abbrev free_m : Built
   free_m = with_goal f inputs q [] lines q.reachables
 
   bad_extends : Extends (whole_goal f inputs lines q).0 (with_query f inputs lines q)
@@ -246,13 +246,13 @@ module _ (f : PlainFlatSystem) (inputs : List ℕ) (lines : List Line) (q : Quer
     query_conditions e =
         record { ready = c.ready; whole = c.whole; room = omega (arith, room_at true e, extends_long chain_m.0 held_m.0 (goal_extends f inputs q (chain_m.1 ∷ []) chain_m.0 q.reachables)) }
 
-    pub query_held : (k : Made) → has_conditions q.assumptions q.currents ≡ true → k ≡ chain_m → CanPutGoal f inputs q (k.1 ∷ []) k.0
+    pub query_held : (k : Built) → has_conditions q.assumptions q.currents ≡ true → k ≡ chain_m → CanPutGoal f inputs q (k.1 ∷ []) k.0
     query_held k e g =
-        subst (λ (k : Made). CanPutGoal f inputs q (k.1 ∷ []) k.0) (sym g)
+        subst (λ (k : Built). CanPutGoal f inputs q (k.1 ∷ []) k.0) (sym g)
         (record { ready = chain_ready; whole = c.whole; before_truths = (conditions_wide f inputs lines q c.ready, tt); room = room_at true e })
 
-    pub query_held_is : (k : Made) → has_conditions q.assumptions q.currents ≡ true → k ≡ chain_m → with_goal f inputs q (k.1 ∷ []) k.0 q.reachables ≡ whole_goal f inputs lines q
-    query_held_is k e g = ap (λ (k : Made). with_goal f inputs q (k.1 ∷ []) k.0 q.reachables) g ∙ sym (ap (λ b. cond b held_m free_m) e)
+    pub query_held_is : (k : Built) → has_conditions q.assumptions q.currents ≡ true → k ≡ chain_m → with_goal f inputs q (k.1 ∷ []) k.0 q.reachables ≡ whole_goal f inputs lines q
+    query_held_is k e g = ap (λ (k : Built). with_goal f inputs q (k.1 ∷ []) k.0 q.reachables) g ∙ sym (ap (λ b. cond b held_m free_m) e)
 
     pub query_free : has_conditions q.assumptions q.currents ≡ false → CanPutGoal f inputs q [] lines
     query_free e = record { ready = c.ready; whole = c.whole; before_truths = tt; room = room_at false e }
@@ -264,8 +264,8 @@ module _ (f : PlainFlatSystem) (inputs : List ℕ) (lines : List Line) (q : Quer
     truth_by true room = goal_truth f inputs q (chain_m.1 ∷ []) chain_m.0 chain_ready (conditions_wide f inputs lines q c.ready, tt) q.reachables (some_long q.reachables c.whole.reachables_differ) room
     truth_by false room = goal_truth f inputs q [] lines c.ready tt q.reachables (some_long q.reachables c.whole.reachables_differ) room
 
-    pub query_truth : (m : Made) → m ≡ whole_goal f inputs lines q → CanPutTruth m.0 m.1
-    query_truth m e = subst (λ (m : Made). CanPutTruth m.0 m.1) (sym e) (record { room = goal_room; width = truth_by (has_conditions q.assumptions q.currents) goal_room })
+    pub query_truth : (m : Built) → m ≡ whole_goal f inputs lines q → CanPutTruth m.0 m.1
+    query_truth m e = subst (λ (m : Built). CanPutTruth m.0 m.1) (sym e) (record { room = goal_room; width = truth_by (has_conditions q.assumptions q.currents) goal_room })
 
 pub queries_extend : (f : PlainFlatSystem) (inputs : List ℕ) (lines : List Line) (qs : List Query) → Extends lines (with_queries f inputs lines qs)
 queries_extend f inputs lines [] = extends_none lines

@@ -18,7 +18,7 @@ use Rattle.moxi_terms.specs.Sorts.{common, compared, count_fits, fitting, is_cha
 use Rattle.moxi_terms.proofs.SortLaws.{AllOne, Calculated, arithmetic, arithmetic_fits, calculated_is, chosen_is, common_one, comparison, comparison_count, same_ok, taken, widened_is}
 use Rattle.moxi_terms.proofs.OperatorLaws.{extracted}
 use Rattle.moxi_lines.specs.Codes.{sort_bits}
-use Rattle.moxi_lines.specs.TermLines.{Made, chain_lines, neighbours, pairs_of, with_operator}
+use Rattle.moxi_lines.specs.TermLines.{Built, chain_lines, neighbours, pairs_of, with_operator}
 use Rattle.moxi_to_btor.specs.TermPutting.{CanChain, CanOperate}
 use Rattle.moxi_to_btor.specs.Standing.{AreAsWide, IsAsWide}
 use Rattle.moxi_to_btor.proofs.Folding.{implied_is}
@@ -92,7 +92,7 @@ module _ (es : List Enumeration) (lines : List Line) where
       let w = all_wide Truth (x ∷ xs) o a in
       record {
         wide = as_wide _ _ 1 s (implied_wide lines x.0 (places xs) w.0 w.1) (ap (sort_bits es) e.1);
-        can = λ room. all_can lines (places (x ∷ xs)) w (λ before last f. subst (λ (m : Made). length m.0 < greatest_id) (implied_is lines (places (x ∷ xs)) before last f) room);
+        can = λ room. all_can lines (places (x ∷ xs)) w (λ before last f. subst (λ (m : Built). length m.0 < greatest_id) (implied_is lines (places (x ∷ xs)) before last f) room);
       }
 
   -- ---- comparisons

@@ -7,7 +7,7 @@ use Rattle.word_core.specs.declared.kinds.Binary.TheVariants as two
 use Rattle.word_core.specs.Table.{BinaryFits, binary_width}
 use Rattle.btor_tree.specs.declared.lines.Line.{Line}
 use Rattle.btor_tree.specs.Fits.{greatest_id, width_at}
-use Rattle.btor_tree.specs.Sharing.{GrowsQuietly}
+use Rattle.btor_tree.specs.Sharing.{GrowsByShared}
 use Rattle.moxi_terms.specs.declared.data.Sort.{Sort}
 use Rattle.moxi_terms.specs.declared.data.Sort.TheVariants.{Truth}
 use Rattle.moxi_terms.specs.declared.term.Enumeration.{Enumeration}
@@ -17,7 +17,7 @@ use Rattle.moxi_terms.specs.Tree.{Tree, sorts_of}
 use Rattle.moxi_terms.specs.View.{ScopeState}
 use Rattle.moxi_flat.specs.FlatSystem.{PlainPart}
 use Rattle.moxi_lines.specs.Codes.{sort_bits}
-use Rattle.moxi_lines.specs.TermLines.{Made, call_lines, with_binary}
+use Rattle.moxi_lines.specs.TermLines.{Built, call_lines, with_binary}
 use Rattle.moxi_lines.proofs.Growing.{grown_long, grown_then}
 use Rattle.moxi_lines.proofs.Chains.{binary_grows}
 use Rattle.moxi_lines.proofs.Terms.{calls_grow, term_grows}
@@ -52,16 +52,16 @@ setup_later s vars inputs a b g h =
 -- ---- formulas
 
 module _ (s : ScopeState) (vars : List Variable) (inputs : List ℕ) (lines : List Line) (t : Tree) where
-  pub formula_grows : GrowsQuietly lines (with_formula s inputs lines t).0
+  pub formula_grows : GrowsByShared lines (with_formula s inputs lines t).0
   formula_grows = term_grows s.enumerations (call_lines s.enumerations s.functions (length s.functions)) (calls_grow s.enumerations s.functions (length s.functions)) (input_place inputs) (input_place inputs) [] lines t
 
-  pub step_grows : GrowsQuietly lines (with_step s inputs lines t).0
+  pub step_grows : GrowsByShared lines (with_step s inputs lines t).0
   step_grows = term_grows s.enumerations (call_lines s.enumerations s.functions (length s.functions)) (calls_grow s.enumerations s.functions (length s.functions)) (state_place inputs) (input_place inputs) [] lines t
 
   all_functions : IsTruthOver s vars t → HasSort s.enumerations (take (length s.functions) s.functions) (sorts_of vars) [] t Truth
   all_functions h = subst (λ fs. HasSort s.enumerations fs (sorts_of vars) [] t Truth) (sym (take_all (length s.functions) s.functions (omega arith))) h
 
-  of_truth : (m : Made) → IsAsWide s.enumerations m.0 m.1 Truth → IsWide m.0 m.1 1
+  of_truth : (m : Built) → IsAsWide s.enumerations m.0 m.1 Truth → IsWide m.0 m.1 1
   of_truth m h = record { low = omega arith; high = omega arith; width = h.width }
 
   pub formula_wide : IsSetUp s vars inputs lines → IsTruthOver s vars t → IsWide (with_formula s inputs lines t).0 (with_formula s inputs lines t).1 1
@@ -87,10 +87,10 @@ pub record IsGate (b : Binary) : Type 0 where
   pub fits : BinaryFits b 1 1
   pub width : binary_width b 1 1 ≡ 1
 
-abbrev pub gated : Binary → Made → Made
+abbrev pub gated : Binary → Built → Built
 gated b m = with_binary b m.0 first_place m.1
 
-module _ (b : Binary) (gate : IsGate b) (lines : List Line) (m : Made) (g : GrowsQuietly lines m.0) (first : width_at lines first_place ≡ 1) (w : IsWide m.0 m.1 1) where
+module _ (b : Binary) (gate : IsGate b) (lines : List Line) (m : Built) (g : GrowsByShared lines m.0) (first : width_at lines first_place ≡ 1) (w : IsWide m.0 m.1 1) where
   first_wide : IsWide m.0 first_place 1
   first_wide = later_wide lines m.0 first_place 1 g (record { low = omega arith; high = omega arith; width = first })
 
@@ -100,13 +100,13 @@ module _ (b : Binary) (gate : IsGate b) (lines : List Line) (m : Made) (g : Grow
   pub gate_wide : width_at (gated b m).0 (gated b m).1 ≡ 1
   gate_wide = (binary_wide b m.0 first_place m.1 1 1 first_wide w (omega (arith, gate.width)) (omega (arith, gate.width))).width ∙ gate.width
 
-constraint_extends : (m : Made) → Extends m.0 (with_constraint m)
+constraint_extends : (m : Built) → Extends m.0 (with_constraint m)
 constraint_extends m = record { more = _; is = refl }
 
-pub gate_room : (b : Binary) (m : Made) → length (with_constraint (gated b m)) < greatest_id → length (gated b m).0 < greatest_id
+pub gate_room : (b : Binary) (m : Built) → length (with_constraint (gated b m)) < greatest_id → length (gated b m).0 < greatest_id
 gate_room b m room = omega (arith, room, extends_long (gated b m).0 (with_constraint (gated b m)) (constraint_extends (gated b m)))
 
-pub made_room : (b : Binary) (m : Made) → length (with_constraint (gated b m)) < greatest_id → length m.0 < greatest_id
+pub made_room : (b : Binary) (m : Built) → length (with_constraint (gated b m)) < greatest_id → length m.0 < greatest_id
 made_room b m room = omega (arith, gate_room b m room, grown_long m.0 (gated b m).0 (binary_grows b m.0 first_place m.1))
 
 pub implies_gate : IsGate two.Implies
@@ -125,15 +125,15 @@ module _ (s : ScopeState) (inputs : List ℕ) (lines : List Line) (t : Tree) whe
     pub init_formula : CanPutFormula s inputs lines t
     init_formula = record { vars = c.vars; there = c.there; truth = c.truth; room = made_room two.Implies (with_formula s inputs lines t) init_room }
 
-    pub init_gate : (m : Made) → m ≡ with_formula s inputs lines t → CanPutBinary two.Implies m.0 first_place m.1
+    pub init_gate : (m : Built) → m ≡ with_formula s inputs lines t → CanPutBinary two.Implies m.0 first_place m.1
     init_gate m e =
         let n = with_formula s inputs lines t in
-        subst (λ (m : Made). CanPutBinary two.Implies m.0 first_place m.1) (sym e) (gate_can two.Implies implies_gate lines n (formula_grows s c.vars inputs lines t) c.there.first (formula_wide s c.vars inputs lines t c.there c.truth) (gate_room two.Implies n init_room))
+        subst (λ (m : Built). CanPutBinary two.Implies m.0 first_place m.1) (sym e) (gate_can two.Implies implies_gate lines n (formula_grows s c.vars inputs lines t) c.there.first (formula_wide s c.vars inputs lines t c.there c.truth) (gate_room two.Implies n init_room))
 
-    pub init_truth : (m g : Made) → m ≡ with_formula s inputs lines t → g ≡ gated two.Implies m → CanPutTruth g.0 g.1
+    pub init_truth : (m g : Built) → m ≡ with_formula s inputs lines t → g ≡ gated two.Implies m → CanPutTruth g.0 g.1
     init_truth m g e f =
         let n = with_formula s inputs lines t in
-        subst (λ (g : Made). CanPutTruth g.0 g.1) (sym (f ∙ ap (gated two.Implies) e))
+        subst (λ (g : Built). CanPutTruth g.0 g.1) (sym (f ∙ ap (gated two.Implies) e))
         (record { room = gate_room two.Implies n init_room; width = gate_wide two.Implies implies_gate lines n (formula_grows s c.vars inputs lines t) c.there.first (formula_wide s c.vars inputs lines t c.there c.truth) })
 
   module _ (c : CanPutTrans s inputs lines t) (some : is_true_term t ≡ false) where
@@ -143,15 +143,15 @@ module _ (s : ScopeState) (inputs : List ℕ) (lines : List Line) (t : Tree) whe
     pub trans_step : CanPutStep s inputs lines t
     trans_step = record { vars = c.vars; there = c.there; truth = c.truth; room = made_room two.Or (with_step s inputs lines t) trans_room }
 
-    pub trans_gate : (m : Made) → m ≡ with_step s inputs lines t → CanPutBinary two.Or m.0 first_place m.1
+    pub trans_gate : (m : Built) → m ≡ with_step s inputs lines t → CanPutBinary two.Or m.0 first_place m.1
     trans_gate m e =
         let n = with_step s inputs lines t in
-        subst (λ (m : Made). CanPutBinary two.Or m.0 first_place m.1) (sym e) (gate_can two.Or or_gate lines n (step_grows s c.vars inputs lines t) c.there.first (step_wide s c.vars inputs lines t c.there c.truth) (gate_room two.Or n trans_room))
+        subst (λ (m : Built). CanPutBinary two.Or m.0 first_place m.1) (sym e) (gate_can two.Or or_gate lines n (step_grows s c.vars inputs lines t) c.there.first (step_wide s c.vars inputs lines t c.there c.truth) (gate_room two.Or n trans_room))
 
-    pub trans_truth : (m g : Made) → m ≡ with_step s inputs lines t → g ≡ gated two.Or m → CanPutTruth g.0 g.1
+    pub trans_truth : (m g : Built) → m ≡ with_step s inputs lines t → g ≡ gated two.Or m → CanPutTruth g.0 g.1
     trans_truth m g e f =
         let n = with_step s inputs lines t in
-        subst (λ (g : Made). CanPutTruth g.0 g.1) (sym (f ∙ ap (gated two.Or) e))
+        subst (λ (g : Built). CanPutTruth g.0 g.1) (sym (f ∙ ap (gated two.Or) e))
         (record { room = gate_room two.Or n trans_room; width = gate_wide two.Or or_gate lines n (step_grows s c.vars inputs lines t) c.there.first (step_wide s c.vars inputs lines t c.there c.truth) })
 
   module _ (c : CanPutInv s inputs lines t) (some : is_true_term t ≡ false) where
@@ -164,8 +164,8 @@ module _ (s : ScopeState) (inputs : List ℕ) (lines : List Line) (t : Tree) whe
     pub inv_formula : CanPutFormula s inputs lines t
     inv_formula = record { vars = c.vars; there = c.there; truth = c.truth; room = inv_room }
 
-    pub inv_truth : (m : Made) → m ≡ with_formula s inputs lines t → CanPutTruth m.0 m.1
-    inv_truth m e = subst (λ (m : Made). CanPutTruth m.0 m.1) (sym e) (record { room = inv_room; width = (formula_wide s c.vars inputs lines t c.there c.truth).width })
+    pub inv_truth : (m : Built) → m ≡ with_formula s inputs lines t → CanPutTruth m.0 m.1
+    inv_truth m e = subst (λ (m : Built). CanPutTruth m.0 m.1) (sym e) (record { room = inv_room; width = (formula_wide s c.vars inputs lines t c.there c.truth).width })
 
   -- ---- growth
 

@@ -6,11 +6,11 @@ use Rattle.word_core.specs.declared.kinds.Binary.TheVariants as two
 use Rattle.btor_tree.specs.declared.lines.Line.{Line}
 use Rattle.btor_tree.specs.declared.lines.LineOp.TheVariants as line
 use Rattle.btor_tree.specs.Fits.{greatest_id, is_next, width_at}
-use Rattle.btor_tree.specs.Sharing.{GrowsQuietly}
+use Rattle.btor_tree.specs.Sharing.{GrowsByShared}
 use Rattle.moxi_scripts.specs.declared.script.Formula.{Formula}
 use Rattle.moxi_scripts.specs.Script.{formula_at, plain_formula}
 use Rattle.moxi_flat.specs.FlatSystem.{PlainFlatSystem}
-use Rattle.moxi_lines.specs.TermLines.{Made, with_binary}
+use Rattle.moxi_lines.specs.TermLines.{Built, with_binary}
 use Rattle.moxi_lines.proofs.Growing.{grown_long, grown_then}
 use Rattle.moxi_lines.proofs.Chains.{binary_grows}
 use Rattle.moxi_to_btor.specs.TermPutting.{CanPutBinary}
@@ -60,22 +60,22 @@ module _ (f : PlainFlatSystem) (inputs name : List ℕ) where
   abbrev pub latch_name : ℕ → List ℕ
   latch_name r = name ++ (codes "." ++ (formula_name f.reachables r ++ codes ".seen"))
 
-  abbrev seen_m : List Line → ℕ → Made
+  abbrev seen_m : List Line → ℕ → Built
   seen_m lines r = with_latch lines (latch_name r) zero_place
 
-  abbrev formula_m : List Line → ℕ → Made
+  abbrev formula_m : List Line → ℕ → Built
   formula_m lines r = with_formula f.scope inputs (seen_m lines r).0 (formula_at f.reachables r)
 
-  abbrev met_m : List Line → ℕ → Made
+  abbrev met_m : List Line → ℕ → Built
   met_m lines r = with_binary two.Or (formula_m lines r).0 (seen_m lines r).1 (formula_m lines r).1
 
   abbrev next_l : List Line → ℕ → List Line
   next_l lines r = with_given (met_m lines r).0 line.Next 1 (seen_m lines r).1 (met_m lines r).1
 
-  seen_grows : (lines : List Line) (r : ℕ) → GrowsQuietly (seen_m lines r).0 (formula_m lines r).0
+  seen_grows : (lines : List Line) (r : ℕ) → GrowsByShared (seen_m lines r).0 (formula_m lines r).0
   seen_grows lines r = formula_grows f.scope f.variables inputs (seen_m lines r).0 (formula_at f.reachables r)
 
-  met_grows : (lines : List Line) (r : ℕ) → GrowsQuietly (formula_m lines r).0 (met_m lines r).0
+  met_grows : (lines : List Line) (r : ℕ) → GrowsByShared (formula_m lines r).0 (met_m lines r).0
   met_grows lines r = binary_grows two.Or (formula_m lines r).0 (seen_m lines r).1 (formula_m lines r).1
 
   formula_after : (lines : List Line) (r : ℕ) → Extends (formula_m lines r).0 (next_l lines r)
@@ -120,34 +120,34 @@ module _ (f : PlainFlatSystem) (inputs name : List ℕ) where
     reachable_latch all e =
         subst (λ n. CanPutLatch m.lines n zero_place) (sym e) (record { width = c.ready.there.zero; room = omega (arith, formula_room, grown_long (seen_m m.lines r).0 (formula_m m.lines r).0 (seen_grows m.lines r)) })
 
-    pub latch_here : (all : List ℕ) (l : Made) → all ≡ latch_name r → l ≡ with_latch m.lines all zero_place → l ≡ seen_m m.lines r
+    pub latch_here : (all : List ℕ) (l : Built) → all ≡ latch_name r → l ≡ with_latch m.lines all zero_place → l ≡ seen_m m.lines r
     latch_here all l e g = g ∙ ap (λ n. with_latch m.lines n zero_place) e
 
-    pub reachable_numbered : (l : Made) → l ≡ seen_m m.lines r → CanPutNumbered f.scope inputs l.0 f.reachables r
+    pub reachable_numbered : (l : Built) → l ≡ seen_m m.lines r → CanPutNumbered f.scope inputs l.0 f.reachables r
     reachable_numbered l e =
-        subst (λ (l : Made). CanPutNumbered f.scope inputs l.0 f.reachables r) (sym e)
+        subst (λ (l : Built). CanPutNumbered f.scope inputs l.0 f.reachables r) (sym e)
         (record { within = c.within; can = record { vars = f.variables; there = (seen_ready m.lines r c.ready).there; truth = truth_at f.scope f.variables f.reachables c.ready.reachables r; room = formula_room } })
 
-    pub reachable_met : (l p : Made) → l ≡ seen_m m.lines r → p ≡ formula_m m.lines r → CanPutBinary two.Or p.0 l.1 p.1
+    pub reachable_met : (l p : Built) → l ≡ seen_m m.lines r → p ≡ formula_m m.lines r → CanPutBinary two.Or p.0 l.1 p.1
     reachable_met l p e g =
-        subst (λ (p : Made). CanPutBinary two.Or p.0 l.1 p.1) (sym g) (subst (λ (l : Made). CanPutBinary two.Or (formula_m m.lines r).0 l.1 (formula_m m.lines r).1) (sym e)
+        subst (λ (p : Built). CanPutBinary two.Or p.0 l.1 p.1) (sym g) (subst (λ (l : Built). CanPutBinary two.Or (formula_m m.lines r).0 l.1 (formula_m m.lines r).1) (sym e)
         (binary_can two.Or (formula_m m.lines r).0 (seen_m m.lines r).1 (formula_m m.lines r).1 1 1 (seen_wide m.lines r c.ready) (formula_is_wide m.lines r c.ready) refl (omega arith) (omega arith) met_room))
 
-    pub met_here : (l p o : Made) → l ≡ seen_m m.lines r → p ≡ formula_m m.lines r → o ≡ with_binary two.Or p.0 l.1 p.1 → o ≡ met_m m.lines r
-    met_here l p o e g h = h ∙ ap (λ (p : Made). with_binary two.Or p.0 l.1 p.1) g ∙ ap (λ (l : Made). with_binary two.Or (formula_m m.lines r).0 l.1 (formula_m m.lines r).1) e
+    pub met_here : (l p o : Built) → l ≡ seen_m m.lines r → p ≡ formula_m m.lines r → o ≡ with_binary two.Or p.0 l.1 p.1 → o ≡ met_m m.lines r
+    met_here l p o e g h = h ∙ ap (λ (p : Built). with_binary two.Or p.0 l.1 p.1) g ∙ ap (λ (l : Built). with_binary two.Or (formula_m m.lines r).0 l.1 (formula_m m.lines r).1) e
 
-    pub reachable_next : (l k : Made) → l ≡ seen_m m.lines r → k ≡ met_m m.lines r → IsOpen is_next l.0 l.1 1 → CanPutGiven k.0 line.Next 1 l.1 k.1
+    pub reachable_next : (l k : Built) → l ≡ seen_m m.lines r → k ≡ met_m m.lines r → IsOpen is_next l.0 l.1 1 → CanPutGiven k.0 line.Next 1 l.1 k.1
     reachable_next l k e g o =
-        let here : IsOpen is_next (seen_m m.lines r).0 (seen_m m.lines r).1 1 = subst (λ (l : Made). IsOpen is_next l.0 l.1 1) e o in
+        let here : IsOpen is_next (seen_m m.lines r).0 (seen_m m.lines r).1 1 = subst (λ (l : Built). IsOpen is_next l.0 l.1 1) e o in
         let grows = grown_then (seen_m m.lines r).0 (formula_m m.lines r).0 (met_m m.lines r).0 (seen_grows m.lines r) (met_grows m.lines r) in
-        subst (λ (k : Made). CanPutGiven k.0 line.Next 1 l.1 k.1) (sym g) (subst (λ (l : Made). CanPutGiven (met_m m.lines r).0 line.Next 1 l.1 (met_m m.lines r).1) (sym e)
+        subst (λ (k : Built). CanPutGiven k.0 line.Next 1 l.1 k.1) (sym g) (subst (λ (l : Built). CanPutGiven (met_m m.lines r).0 line.Next 1 l.1 (met_m m.lines r).1) (sym e)
         (next_can (met_m m.lines r).0 1 (seen_m m.lines r).1 (met_m m.lines r).1 (omega arith) (omega arith) (later_open is_next next_gives _ _ (seen_m m.lines r).1 1 (omega arith) grows here) (met_wide m.lines r c.ready).width c.room))
 
-    pub reachable_is : (l p k : Made) (new : List Line) (formulas seen : List ℕ) → l ≡ seen_m m.lines r → p ≡ formula_m m.lines r → k ≡ met_m m.lines r → new ≡ with_given k.0 line.Next 1 l.1 k.1
+    pub reachable_is : (l p k : Built) (new : List Line) (formulas seen : List ℕ) → l ≡ seen_m m.lines r → p ≡ formula_m m.lines r → k ≡ met_m m.lines r → new ≡ with_given k.0 line.Next 1 l.1 k.1
         → formulas ≡ m.formulas ++ p.1 ∷ [] → seen ≡ m.seen ++ k.1 ∷ [] → reaching new formulas seen ≡ with_reachable f inputs name m r
     reachable_is l p k new formulas seen e g h i j t =
-        ap (λ ls. reaching ls formulas seen) (i ∙ ap (λ (l : Made). with_given k.0 line.Next 1 l.1 k.1) e ∙ ap (λ (k : Made). with_given k.0 line.Next 1 (seen_m m.lines r).1 k.1) h)
-        ∙ ap (λ fs. reaching (next_l m.lines r) fs seen) (j ∙ ap (λ (p : Made). m.formulas ++ p.1 ∷ []) g) ∙ ap (reaching (next_l m.lines r) (with_reachable f inputs name m r).formulas) (t ∙ ap (λ (k : Made). m.seen ++ k.1 ∷ []) h)
+        ap (λ ls. reaching ls formulas seen) (i ∙ ap (λ (l : Built). with_given k.0 line.Next 1 l.1 k.1) e ∙ ap (λ (k : Built). with_given k.0 line.Next 1 (seen_m m.lines r).1 k.1) h)
+        ∙ ap (λ fs. reaching (next_l m.lines r) fs seen) (j ∙ ap (λ (p : Built). m.formulas ++ p.1 ∷ []) g) ∙ ap (reaching (next_l m.lines r) (with_reachable f inputs name m r).formulas) (t ∙ ap (λ (k : Built). m.seen ++ k.1 ∷ []) h)
 
   -- ---- all of them
 

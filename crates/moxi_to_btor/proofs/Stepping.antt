@@ -5,7 +5,7 @@ use Rattle.std.specs.Borrow.{Bor}
 use Rattle.std.proofs.lemmas.List.{take_all}
 use Rattle.btor_tree.specs.declared.lines.Line.{Line}
 use Rattle.btor_tree.specs.Fits.{greatest_id}
-use Rattle.btor_tree.specs.Sharing.{GrowsQuietly}
+use Rattle.btor_tree.specs.Sharing.{GrowsByShared}
 use Rattle.moxi_terms.specs.declared.data.Sort.{Sort}
 use Rattle.moxi_terms.specs.declared.data.Datum.{Datum}
 use Rattle.moxi_terms.specs.declared.data.TermOp.{TermOp}
@@ -15,7 +15,7 @@ use Rattle.moxi_terms.specs.Tree.{Tree, constant, variable, apply, binding, call
 use Rattle.moxi_terms.specs.View.{ScopeState}
 use Rattle.moxi_terms.proofs.ValueLaws.{read_at, taken_at}
 use Rattle.moxi_lines.specs.TermLaws.{HaveCodes}
-use Rattle.moxi_lines.specs.TermLines.{AllMade, Made, call_lines, followed_by, with_operator, with_term}
+use Rattle.moxi_lines.specs.TermLines.{AllBuilt, Built, call_lines, followed_by, with_operator, with_term}
 use Rattle.moxi_lines.proofs.Growing.{grown_long, wide_inside}
 use Rattle.moxi_lines.proofs.Terms.{calls_grow, term_grows, terms_grow}
 use Rattle.moxi_to_btor.specs.declared.terms.Places.TheVariants.{At}
@@ -27,7 +27,7 @@ use Rattle.moxi_to_btor.proofs.Folding.{put_with}
 use Rattle.moxi_to_btor.proofs.Operating.{operated}
 use Rattle.moxi_to_btor.proofs.TermWidths.{all_terms_wide, both_wide, called_lines, datum_can, later_all, later_variables, operator_grows, parameters_wide}
 
-there_later : (es : List Enumeration) (fs : List PlainFunction) (upto : ℕ) (vars sorts : List Sort) (now later : ℕ → ℕ) (bounds : List ℕ) (a b : List Line) → GrowsQuietly a b
+there_later : (es : List Enumeration) (fs : List PlainFunction) (upto : ℕ) (vars sorts : List Sort) (now later : ℕ → ℕ) (bounds : List ℕ) (a b : List Line) → GrowsByShared a b
     → IsThere es fs upto vars sorts now later bounds a → IsThere es fs upto vars sorts now later bounds b
 there_later es fs upto vars sorts now later bounds a b g h =
     record {
@@ -39,28 +39,28 @@ there_later es fs upto vars sorts now later bounds a b g h =
       stand_bound = later_all es a b bounds sorts g h.stand_bound;
     }
 
--- a variable that stands among the lines
+-- a variable that is among the lines
 variable_inside : (es : List Enumeration) (lines : List Line) (vars : List Sort) (places : ℕ → ℕ) (v : ℕ) (s : Sort) → VariablesAreAsWide es lines vars places → slice_get vars v ≡ Some s → length lines < greatest_id → places v < 2 ^ 32
 variable_inside es lines vars places v s h e room =
     let i = h.each v s e in
     let l : places v < length lines = wide_inside lines (places v) _ i.wide i.width in
     omega (arith, l, room)
 
-abbrev pub made : List Line → ℕ → Made
+abbrev pub made : List Line → ℕ → Built
 made lines p = (lines, p)
 
-abbrev pub all_made : List Line → List ℕ → AllMade
+abbrev pub all_made : List Line → List ℕ → AllBuilt
 all_made lines ps = (lines, ps)
 
-pub made_same : {E : Type 0} (r : Result ℕ E) (new : List Line) (m n : Made) → m ≡ n → IfOk r (λ p. made new p ≡ m) → IfOk r (λ p. made new p ≡ n)
+pub made_same : {E : Type 0} (r : Result ℕ E) (new : List Line) (m n : Built) → m ≡ n → IfOk r (λ p. made new p ≡ m) → IfOk r (λ p. made new p ≡ n)
 made_same (Ok p) new m n e h = h ∙ e
 made_same (Err x) new m n e h = h
 
 module _ (s : Scene) (bounds : List ℕ) (lines : List Line) where
-  all_grow : (ts : Trees) → GrowsQuietly lines (all_lines_in s bounds lines ts).0
+  all_grow : (ts : Trees) → GrowsByShared lines (all_lines_in s bounds lines ts).0
   all_grow ts = terms_grow s.enumerations.now (call_lines s.enumerations.now (functions_in s) s.upto) (calls_grow s.enumerations.now (functions_in s) s.upto) (place_by s.now) (place_by s.later) bounds lines ts
 
-  one_grows : (t : Tree) → GrowsQuietly lines (lines_in s bounds lines t).0
+  one_grows : (t : Tree) → GrowsByShared lines (lines_in s bounds lines t).0
   one_grows t = term_grows s.enumerations.now (call_lines s.enumerations.now (functions_in s) s.upto) (calls_grow s.enumerations.now (functions_in s) s.upto) (place_by s.now) (place_by s.later) bounds lines t
 
   all_stand : (vars sorts : List Sort) (ts : Trees) (ss : List Sort) → IsThere s.enumerations.now (functions_in s) s.upto vars sorts (place_by s.now) (place_by s.later) bounds lines
@@ -96,11 +96,11 @@ module _ (s : Scene) (bounds : List ℕ) (lines : List Line) where
       let h = sorted_at t (apply o ts) c e in
       arguments_can t ts h.0 c h.1 (omega (arith, room_at t (apply o ts) c e, grown_long m.0 (with_operator o m.0 m.1).0 (operator_grows o m.0 m.1)))
 
-  pub operator_can : (t : Tree) (o : TermOp) (ts : Trees) (m : AllMade) → CanPutTerm s bounds lines t → t ≡ apply o ts → m ≡ all_lines_in s bounds lines ts → CanOperate o m.0 m.1
+  pub operator_can : (t : Tree) (o : TermOp) (ts : Trees) (m : AllBuilt) → CanPutTerm s bounds lines t → t ≡ apply o ts → m ≡ all_lines_in s bounds lines ts → CanOperate o m.0 m.1
   operator_can t o ts m c e f =
       let n = all_lines_in s bounds lines ts in
       let h = sorted_at t (apply o ts) c e in
-      subst (λ (n : AllMade). CanOperate o n.0 n.1) (sym f) ((operated s.enumerations.now n.0 o n.1 h.0 c.sort (all_stand c.vars c.sorts ts h.0 c.there h.1) h.2).can (room_at t (apply o ts) c e))
+      subst (λ (n : AllBuilt). CanOperate o n.0 n.1) (sym f) ((operated s.enumerations.now n.0 o n.1 h.0 c.sort (all_stand c.vars c.sorts ts h.0 c.there h.1) h.2).can (room_at t (apply o ts) c e))
 
   pub values_can : (t : Tree) (names : List (List ℕ)) (ts : Trees) (u : Tree) → CanPutTerm s bounds lines t → t ≡ binding names ts u → CanPutTerms s bounds lines ts
   values_can t names ts u c e =
@@ -113,12 +113,12 @@ module _ (s : Scene) (bounds : List ℕ) (lines : List Line) where
             (term_grows s.enumerations.now (call_lines s.enumerations.now (functions_in s) s.upto) (calls_grow s.enumerations.now (functions_in s) s.upto) (place_by s.now) (place_by s.later) (bounds ++ m.1) m.0 u),
       ))
 
-  pub inner_can : (t : Tree) (names : List (List ℕ)) (ts : Trees) (u : Tree) (m : AllMade) → CanPutTerm s bounds lines t → t ≡ binding names ts u → m ≡ all_lines_in s bounds lines ts → CanPutTerm s (bounds ++ m.1) m.0 u
+  pub inner_can : (t : Tree) (names : List (List ℕ)) (ts : Trees) (u : Tree) (m : AllBuilt) → CanPutTerm s bounds lines t → t ≡ binding names ts u → m ≡ all_lines_in s bounds lines ts → CanPutTerm s (bounds ++ m.1) m.0 u
   inner_can t names ts u m c e f =
       let n = all_lines_in s bounds lines ts in
       let h = sorted_at t (binding names ts u) c e in
       let i = there_later s.enumerations.now (functions_in s) s.upto c.vars c.sorts (place_by s.now) (place_by s.later) bounds lines n.0 (all_grow ts) c.there in
-      subst (λ (n : AllMade). CanPutTerm s (bounds ++ n.1) n.0 u) (sym f)
+      subst (λ (n : AllBuilt). CanPutTerm s (bounds ++ n.1) n.0 u) (sym f)
       (record {
         vars = c.vars;
         sorts = c.sorts ++ h.0;
@@ -141,11 +141,11 @@ module _ (s : Scene) (bounds : List ℕ) (lines : List Line) where
       let h = sorted_at t (call n ts) c e in
       arguments_can t ts (sorts_of h.0.parameters) c h.2 (omega (arith, room_at t (call n ts) c e, grown_long m.0 (call_lines_in s n m.0 m.1).0 ((calls_grow s.enumerations.now (functions_in s) s.upto).each n m.0 m.1)))
 
-  pub call_can : (t : Tree) (n : ℕ) (ts : Trees) (m : AllMade) → CanPutTerm s bounds lines t → t ≡ call n ts → m ≡ all_lines_in s bounds lines ts → CanPutCall s n m.0 m.1
+  pub call_can : (t : Tree) (n : ℕ) (ts : Trees) (m : AllBuilt) → CanPutTerm s bounds lines t → t ≡ call n ts → m ≡ all_lines_in s bounds lines ts → CanPutCall s n m.0 m.1
   call_can t n ts m c e f =
       let k = all_lines_in s bounds lines ts in
       let h = sorted_at t (call n ts) c e in
-      subst (λ (k : AllMade). CanPutCall s n k.0 k.1) (sym f)
+      subst (λ (k : AllBuilt). CanPutCall s n k.0 k.1) (sym f)
       (record {
         function = h.0;
         found = h.1;
@@ -179,11 +179,11 @@ module _ (s : Scene) (bounds : List ℕ) (lines : List Line) where
       let g = terms_grow s.enumerations.now (call_lines s.enumerations.now (functions_in s) s.upto) (calls_grow s.enumerations.now (functions_in s) s.upto) (place_by s.now) (place_by s.later) bounds m.0 us in
       record { vars = c.vars; sorts = c.sorts; sort = h.sort; there = c.there; sorted = h.first; room = omega (arith, all, grown_long m.0 (all_lines_in s bounds m.0 us).0 g) }
 
-  pub rest_can : (ts : Trees) (t : Tree) (us : Trees) (m : Made) → CanPutTerms s bounds lines ts → ts ≡ tree t us → m ≡ lines_in s bounds lines t → CanPutTerms s bounds m.0 us
+  pub rest_can : (ts : Trees) (t : Tree) (us : Trees) (m : Built) → CanPutTerms s bounds lines ts → ts ≡ tree t us → m ≡ lines_in s bounds lines t → CanPutTerms s bounds m.0 us
   rest_can ts t us m c e f =
       let h = split_at ts t us c e in
       let n = lines_in s bounds lines t in
-      subst (λ (m : Made). CanPutTerms s bounds m.0 us) (sym f)
+      subst (λ (m : Built). CanPutTerms s bounds m.0 us) (sym f)
       (record {
         vars = c.vars;
         sorts = c.sorts;
@@ -199,7 +199,7 @@ module _ (s : Scene) (bounds : List ℕ) (lines : List Line) where
       let a = all_lines_in s bounds new rest in
       ap (λ ps. put_with ps a) f
       ∙ ap (λ ps. all_made a.0 ps) (append_assoc places (place ∷ []) a.1)
-      ∙ ap (λ (m : Made). put_with places (followed_by m.1 (all_lines_in s bounds m.0 rest))) e
+      ∙ ap (λ (m : Built). put_with places (followed_by m.1 (all_lines_in s bounds m.0 rest))) e
       ∙ ap (λ ts. put_with places (all_lines_in s bounds lines ts)) (sym g)
 
 -- ---- calls
@@ -232,19 +232,19 @@ module _ (s : Scene) (n : ℕ) (lines : List Line) (ps : Bor (List ℕ)) (body :
           stand_bound = tt;
         };
         sorted = subst (λ b. HasSort s.enumerations.now (take n (functions_in s)) (sorts_of c.function.parameters) [] b c.function.result) same (c.functions n c.function p.0).body;
-        room = subst (λ (m : Made). length m.0 < greatest_id) call_is c.room;
+        room = subst (λ (m : Built). length m.0 < greatest_id) call_is c.room;
       }
 
 -- ---- whole terms
 
 -- a scene of all functions of a scope
-pub record IsWhole (scope : ScopeState) (s : Scene) : Type 0 where
+pub record IsValid (scope : ScopeState) (s : Scene) : Type 0 where
   pub enumerations : s.enumerations.now ≡ scope.enumerations
   pub functions : functions_in s ≡ scope.functions
   pub upto : s.upto ≡ length scope.functions
   pub sound : IsScope scope
 
-module _ (scope : ScopeState) (s : Scene) (w : IsWhole scope s) (lines : List Line) (t : Tree) where
+module _ (scope : ScopeState) (s : Scene) (w : IsValid scope s) (lines : List Line) (t : Tree) where
   pub whole_is : lines_in s [] lines t ≡ whole_lines scope (place_by s.now) (place_by s.later) lines t
   whole_is =
       ap (λ es. with_term es (call_lines es (functions_in s) s.upto) (place_by s.now) (place_by s.later) [] lines t) w.enumerations
@@ -268,5 +268,5 @@ module _ (scope : ScopeState) (s : Scene) (w : IsWhole scope s) (lines : List Li
           stand_bound = tt;
         };
         sorted = subst (λ fs. HasSort s.enumerations.now fs c.vars [] t c.sort) (sym all) (subst (λ es. HasSort es scope.functions c.vars [] t c.sort) es c.sorted);
-        room = subst (λ (m : Made). length m.0 < greatest_id) (sym whole_is) c.room;
+        room = subst (λ (m : Built). length m.0 < greatest_id) (sym whole_is) c.room;
       }

@@ -12,7 +12,7 @@ use Rattle.moxi_terms.specs.Sorted.{AreSorts, IsScope}
 use Rattle.moxi_terms.specs.Tree.{sorts_of}
 use Rattle.moxi_flat.specs.FlatSystem.{PlainFlatSystem}
 use Rattle.moxi_lines.specs.TermLaws.{HaveCodes}
-use Rattle.moxi_lines.specs.TermLines.{AllMade, Made, place_in}
+use Rattle.moxi_lines.specs.TermLines.{AllBuilt, Built, place_in}
 use Rattle.moxi_to_btor.specs.Standing.{IsAsWide}
 use Rattle.moxi_lines.specs.Lines.{head_lines, lines_of, variable_lines, with_free, with_given, with_parts, with_queries, with_variables}
 use Rattle.moxi_lines.specs.Variables.{AreVariablesAt}
@@ -35,7 +35,7 @@ codes_more e n es f h rest = (omega (arith, f, h), rest)
 
 -- ---- the head
 
-abbrev first_m : Made
+abbrev first_m : Built
 first_m = with_free constant_lines line.State 1 (codes "first")
 
 abbrev first_init : List Line
@@ -44,20 +44,20 @@ first_init = with_given first_m.0 line.Init 1 3 1
 pub head_state : (lines : List Line) → lines ≡ constant_lines → CanPutFree lines line.State 1 (codes "first")
 head_state lines e = subst (λ ls. CanPutFree ls line.State 1 (codes "first")) (sym e) (state_can constant_lines 1 (codes "first") (omega arith) (omega arith) (omega arith))
 
-pub head_init : (lines : List Line) (m : Made) → lines ≡ constant_lines → m ≡ with_free lines line.State 1 (codes "first") → CanPutGiven m.0 line.Init 1 3 1
+pub head_init : (lines : List Line) (m : Built) → lines ≡ constant_lines → m ≡ with_free lines line.State 1 (codes "first") → CanPutGiven m.0 line.Init 1 3 1
 head_init lines m e f =
     let o : IsOpen is_init first_m.0 3 1 = record { state = refl; width = refl; none = refl } in
-    subst (λ (m : Made). CanPutGiven m.0 line.Init 1 3 1) (sym (f ∙ ap (λ ls. with_free ls line.State 1 (codes "first")) e)) (init_can first_m.0 1 3 1 (omega arith) (omega arith) o refl (omega arith) (omega arith))
+    subst (λ (m : Built). CanPutGiven m.0 line.Init 1 3 1) (sym (f ∙ ap (λ ls. with_free ls line.State 1 (codes "first")) e)) (init_can first_m.0 1 3 1 (omega arith) (omega arith) o refl (omega arith) (omega arith))
 
-pub head_next : (lines : List Line) (m : Made) (new : List Line) → lines ≡ constant_lines → m ≡ with_free lines line.State 1 (codes "first") → new ≡ with_given m.0 line.Init 1 3 1 → CanPutGiven new line.Next 1 3 2
+pub head_next : (lines : List Line) (m : Built) (new : List Line) → lines ≡ constant_lines → m ≡ with_free lines line.State 1 (codes "first") → new ≡ with_given m.0 line.Init 1 3 1 → CanPutGiven new line.Next 1 3 2
 head_next lines m new e f g =
     let o : IsOpen is_next first_init 3 1 = record { state = refl; width = refl; none = refl } in
-    let h : new ≡ first_init = g ∙ ap (λ (m : Made). with_given m.0 line.Init 1 3 1) (f ∙ ap (λ ls. with_free ls line.State 1 (codes "first")) e) in
+    let h : new ≡ first_init = g ∙ ap (λ (m : Built). with_given m.0 line.Init 1 3 1) (f ∙ ap (λ ls. with_free ls line.State 1 (codes "first")) e) in
     subst (λ ls. CanPutGiven ls line.Next 1 3 2) (sym h) (next_can first_init 1 3 2 (omega arith) (omega arith) o refl (omega arith))
 
-pub head_is : (lines : List Line) (m : Made) (new : List Line) → lines ≡ constant_lines → m ≡ with_free lines line.State 1 (codes "first") → new ≡ with_given m.0 line.Init 1 3 1 → with_given new line.Next 1 3 2 ≡ head_lines
+pub head_is : (lines : List Line) (m : Built) (new : List Line) → lines ≡ constant_lines → m ≡ with_free lines line.State 1 (codes "first") → new ≡ with_given m.0 line.Init 1 3 1 → with_given new line.Next 1 3 2 ≡ head_lines
 head_is lines m new e f g =
-    ap (λ ls. with_given ls line.Next 1 3 2) (g ∙ ap (λ (m : Made). with_given m.0 line.Init 1 3 1) (f ∙ ap (λ ls. with_free ls line.State 1 (codes "first")) e))
+    ap (λ ls. with_given ls line.Next 1 3 2) (g ∙ ap (λ (m : Built). with_given m.0 line.Init 1 3 1) (f ∙ ap (λ ls. with_free ls line.State 1 (codes "first")) e))
 
 -- ---- variables
 
@@ -80,7 +80,7 @@ state_wide es codes lines (x ∷ vs) (p ∷ ps) k a (suc v) s h = state_wide es 
 -- ---- the whole
 
 module _ (f : PlainFlatSystem) (codes : HaveCodes f.scope.enumerations) (sound : IsScope f.scope) (k : IsKnown f) where
-  abbrev variables_m : AllMade
+  abbrev variables_m : AllBuilt
   variables_m = variable_lines f
 
   abbrev parts_l : List Line
@@ -115,14 +115,14 @@ module _ (f : PlainFlatSystem) (codes : HaveCodes f.scope.enumerations) (sound :
   pub variables_are : (es : List Enumeration) (lines : List Line) (vs : List Variable) → es ≡ f.scope.enumerations → lines ≡ head_lines → vs ≡ f.variables → with_variables es (all_made lines []) vs ≡ variable_lines f
   variables_are es lines vs e g h = ap (λ es. with_variables es (all_made lines []) vs) e ∙ ap (λ ls. with_variables f.scope.enumerations (all_made ls []) vs) g ∙ ap (with_variables f.scope.enumerations (all_made head_lines [])) h
 
-  pub parts_can : (m : AllMade) → m ≡ variable_lines f → CanPutParts f.scope m.1 m.0 f.parts
-  parts_can m e = subst (λ (m : AllMade). CanPutParts f.scope m.1 m.0 f.parts) (sym e) (record { vars = f.variables; there = set_up; over = k.parts; room = parts_room })
+  pub parts_can : (m : AllBuilt) → m ≡ variable_lines f → CanPutParts f.scope m.1 m.0 f.parts
+  parts_can m e = subst (λ (m : AllBuilt). CanPutParts f.scope m.1 m.0 f.parts) (sym e) (record { vars = f.variables; there = set_up; over = k.parts; room = parts_room })
 
-  pub queries_can : (m : AllMade) (new : List Line) → m ≡ variable_lines f → new ≡ with_parts f.scope m.1 m.0 f.parts → CanPutQueries f m.1 new f.queries
+  pub queries_can : (m : AllBuilt) (new : List Line) → m ≡ variable_lines f → new ≡ with_parts f.scope m.1 m.0 f.parts → CanPutQueries f m.1 new f.queries
   queries_can m new e g =
       let ready : IsReady f variables_m.1 variables_m.0 = record { there = set_up; assumptions = k.assumptions; currents = k.currents; reachables = k.reachables } in
-      subst (λ ls. CanPutQueries f m.1 ls f.queries) (sym g) (subst (λ (m : AllMade). CanPutQueries f m.1 (with_parts f.scope m.1 m.0 f.parts) f.queries) (sym e)
+      subst (λ ls. CanPutQueries f m.1 ls f.queries) (sym g) (subst (λ (m : AllBuilt). CanPutQueries f m.1 (with_parts f.scope m.1 m.0 f.parts) f.queries) (sym e)
       (record { ready = ready_later f variables_m.1 variables_m.0 parts_l (parts_extend f.scope variables_m.1 variables_m.0 f.parts) ready; whole = k.queries; room = k.room }))
 
-  pub whole_is : (m : AllMade) (new : List Line) → m ≡ variable_lines f → new ≡ with_parts f.scope m.1 m.0 f.parts → with_queries f m.1 new f.queries ≡ lines_of f
-  whole_is m new e g = ap (λ ls. with_queries f m.1 ls f.queries) g ∙ ap (λ (m : AllMade). with_queries f m.1 (with_parts f.scope m.1 m.0 f.parts) f.queries) e
+  pub whole_is : (m : AllBuilt) (new : List Line) → m ≡ variable_lines f → new ≡ with_parts f.scope m.1 m.0 f.parts → with_queries f m.1 new f.queries ≡ lines_of f
+  whole_is m new e g = ap (λ ls. with_queries f m.1 ls f.queries) g ∙ ap (λ (m : AllBuilt). with_queries f m.1 (with_parts f.scope m.1 m.0 f.parts) f.queries) e

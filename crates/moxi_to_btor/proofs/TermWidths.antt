@@ -6,7 +6,7 @@ use Rattle.std.proofs.lemmas.Bool.Decides.{eqb_tells}
 use Rattle.btor_tree.specs.declared.lines.Line.{Line}
 use Rattle.btor_tree.specs.declared.lines.LineOp.TheVariants as line
 use Rattle.btor_tree.specs.Fits.{greatest_id}
-use Rattle.btor_tree.specs.Sharing.{GrowsQuietly}
+use Rattle.btor_tree.specs.Sharing.{GrowsByShared}
 use Rattle.moxi_terms.specs.declared.data.Sort.{Sort}
 use Rattle.moxi_terms.specs.declared.data.Sort.TheVariants.{Truth, Bits, Choice}
 use Rattle.moxi_terms.specs.declared.data.Datum.{Datum}
@@ -21,7 +21,7 @@ use Rattle.moxi_terms.proofs.Plain.{found_within}
 use Rattle.moxi_terms.proofs.ValueLaws.{read_at, taken_at}
 use Rattle.moxi_lines.specs.Codes.{code_of, sort_bits}
 use Rattle.moxi_lines.specs.TermLaws.{HaveCodes}
-use Rattle.moxi_lines.specs.TermLines.{AllMade, CallLines, Made, call_lines, place_in, with_constant, with_datum, with_operator, with_term, with_terms}
+use Rattle.moxi_lines.specs.TermLines.{AllBuilt, CallLines, Built, call_lines, place_in, with_constant, with_datum, with_operator, with_term, with_terms}
 use Rattle.moxi_lines.proofs.CodeLaws.{code_is_word}
 use Rattle.moxi_lines.proofs.Growing.{grown_width}
 use Rattle.moxi_lines.proofs.Terms.{CallsGrow, calls_grow, term_grows, terms_grow}
@@ -38,25 +38,25 @@ numbered (p ∷ ps) = tree (variable p false) (numbered ps)
 numbered_made : (lines : List Line) (ps : List ℕ) → with_terms [] (call_lines [] [] 0) (λ v. v) (λ v. v) [] lines (numbered ps) ≡ (lines, ps)
 unfolding numbered
 numbered_made lines [] = refl
-numbered_made lines (p ∷ ps) = ap (λ (m : AllMade). let r : AllMade = (m.0, p ∷ m.1) in r) (numbered_made lines ps)
+numbered_made lines (p ∷ ps) = ap (λ (m : AllBuilt). let r : AllBuilt = (m.0, p ∷ m.1) in r) (numbered_made lines ps)
 
-pub operator_grows : (o : TermOp) (lines : List Line) (ps : List ℕ) → GrowsQuietly lines (with_operator o lines ps).0
+pub operator_grows : (o : TermOp) (lines : List Line) (ps : List ℕ) → GrowsByShared lines (with_operator o lines ps).0
 operator_grows o lines ps =
-    subst (λ (m : AllMade). GrowsQuietly lines (with_operator o m.0 m.1).0) (numbered_made lines ps)
+    subst (λ (m : AllBuilt). GrowsByShared lines (with_operator o m.0 m.1).0) (numbered_made lines ps)
     (term_grows [] (call_lines [] [] 0) (calls_grow [] [] 0) (λ v. v) (λ v. v) [] lines (apply o (numbered ps)))
 
 -- ---- what stays as lines grow
 
-pub later_as_wide : (es : List Enumeration) (a b : List Line) (p : ℕ) (s : Sort) → GrowsQuietly a b → IsAsWide es a p s → IsAsWide es b p s
+pub later_as_wide : (es : List Enumeration) (a b : List Line) (p : ℕ) (s : Sort) → GrowsByShared a b → IsAsWide es a p s → IsAsWide es b p s
 later_as_wide es a b p s g h = record { wide = h.wide; narrow = h.narrow; width = grown_width a b p (sort_bits es s) h.wide g h.width }
 
-pub later_all : (es : List Enumeration) (a b : List Line) (ps : List ℕ) (ss : List Sort) → GrowsQuietly a b → AreAsWide es a ps ss → AreAsWide es b ps ss
+pub later_all : (es : List Enumeration) (a b : List Line) (ps : List ℕ) (ss : List Sort) → GrowsByShared a b → AreAsWide es a ps ss → AreAsWide es b ps ss
 later_all es a b [] [] g h = tt
 later_all es a b [] (s ∷ ss) g h = absurd h
 later_all es a b (p ∷ ps) [] g h = absurd h
 later_all es a b (p ∷ ps) (s ∷ ss) g h = (later_as_wide es a b p s g h.0, later_all es a b ps ss g h.1)
 
-pub later_variables : (es : List Enumeration) (a b : List Line) (vars : List Sort) (places : ℕ → ℕ) → GrowsQuietly a b → VariablesAreAsWide es a vars places → VariablesAreAsWide es b vars places
+pub later_variables : (es : List Enumeration) (a b : List Line) (vars : List Sort) (places : ℕ → ℕ) → GrowsByShared a b → VariablesAreAsWide es a vars places → VariablesAreAsWide es b vars places
 later_variables es a b vars places g h = record { each = λ v s e. later_as_wide es a b (places v) s g (h.each v s e) }
 
 pub both_wide : (es : List Enumeration) (lines : List Line) (ps qs : List ℕ) (ss ts : List Sort) → AreAsWide es lines ps ss → AreAsWide es lines qs ts → AreAsWide es lines (ps ++ qs) (ss ++ ts)
@@ -166,7 +166,7 @@ module _ (es : List Enumeration) (codes : HaveCodes es) where
             let here : call_lines es fs k n lines ps ≡ with_term es (call_lines es fs n) (place_in ps) (place_in ps) [] lines f.body =
             called_lines es fs k n lines ps p.1 ∙ ap (with_term es (call_lines es fs n) (place_in ps) (place_in ps) [] lines) e in
             let given = parameters_wide es lines ps (sorts_of f.parameters) x in
-            subst (λ (z : Made). IsAsWide es z.0 z.1 f.result) (sym here)
+            subst (λ (z : Built). IsAsWide es z.0 z.1 f.result) (sym here)
             (term_wide (take n fs) (call_lines es fs n) (calls_grow es fs n) (calls_wide_below fs a b n n_small) (sorts_of f.parameters) (place_in ps) (place_in ps) [] [] lines f.body f.result given given tt (a n f p.0).body);
       }
 

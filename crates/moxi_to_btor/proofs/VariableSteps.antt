@@ -14,7 +14,7 @@ use Rattle.moxi_terms.specs.declared.term.Enumeration.{Enumeration}
 use Rattle.moxi_terms.specs.declared.term.Variable.{Variable}
 use Rattle.moxi_lines.specs.Codes.{choice_width, constant_count, sort_bits}
 use Rattle.moxi_lines.specs.TermLaws.{HaveCodes}
-use Rattle.moxi_lines.specs.TermLines.{AllMade, Made, with_binary, with_constant}
+use Rattle.moxi_lines.specs.TermLines.{AllBuilt, Built, with_binary, with_constant}
 use Rattle.moxi_lines.proofs.CodeLaws.{choice_holds, width_low}
 use Rattle.moxi_lines.proofs.Growing.{grown_long, grown_width}
 use Rattle.moxi_lines.proofs.Steps.{word_grows}
@@ -58,16 +58,16 @@ module _ (x : BitVector) (lines : List Line) (p : ℕ) (c : CanPutBelow x lines 
         record { low = c.word.0; high = c.word.1; width = word_wide lines (line.Constant x) x.width [] refl refl c.word.0 },
       )
 
-  pub less_can : (m : Made) → m ≡ with_constant lines x → CanPutBinary two.Ult m.0 p m.1
+  pub less_can : (m : Built) → m ≡ with_constant lines x → CanPutBinary two.Ult m.0 p m.1
   less_can m e =
       let n = with_constant lines x in
-      subst (λ (m : Made). CanPutBinary two.Ult m.0 p m.1) (sym e) (binary_can two.Ult n.0 p n.1 x.width x.width both_wide.0 both_wide.1 refl (omega arith) (omega arith) limit_room)
+      subst (λ (m : Built). CanPutBinary two.Ult m.0 p m.1) (sym e) (binary_can two.Ult n.0 p n.1 x.width x.width both_wide.0 both_wide.1 refl (omega arith) (omega arith) limit_room)
 
-  pub truth_can : (m g : Made) → m ≡ with_constant lines x → g ≡ with_binary two.Ult m.0 p m.1 → CanPutTruth g.0 g.1
+  pub truth_can : (m g : Built) → m ≡ with_constant lines x → g ≡ with_binary two.Ult m.0 p m.1 → CanPutTruth g.0 g.1
   truth_can m g e f =
       let n = with_constant lines x in
-      let h : g ≡ with_binary two.Ult n.0 p n.1 = f ∙ ap (λ (m : Made). with_binary two.Ult m.0 p m.1) e in
-      subst (λ (g : Made). CanPutTruth g.0 g.1) (sym h) (record { room = limit_room; width = (binary_wide two.Ult n.0 p n.1 x.width x.width both_wide.0 both_wide.1 (omega arith) (omega arith)).width })
+      let h : g ≡ with_binary two.Ult n.0 p n.1 = f ∙ ap (λ (m : Built). with_binary two.Ult m.0 p m.1) e in
+      subst (λ (g : Built). CanPutTruth g.0 g.1) (sym h) (record { room = limit_room; width = (binary_wide two.Ult n.0 p n.1 x.width x.width both_wide.0 both_wide.1 (omega arith) (omega arith)).width })
 
 code_extends : (es : List Enumeration) (s : Sort) (lines : List Line) (p : ℕ) → Extends lines (with_code es s lines p)
 code_extends es Truth lines p = extends_none lines
@@ -114,10 +114,10 @@ below_can es n lines p c i = record { word = i; width = c.width; room = subst (�
 -- ---- one variable
 
 module _ (es : List Enumeration) (lines : List Line) (v : Variable) (c : CanPutVariable es lines v) where
-  abbrev input_m : Made
+  abbrev input_m : Built
   input_m = with_free lines line.Input (sort_bits es v.sort) v.name
 
-  abbrev state_m : Made
+  abbrev state_m : Built
   state_m = with_free input_m.0 line.State (sort_bits es v.sort) (v.name ++ codes ".prev")
 
   abbrev next_m : List Line
@@ -145,50 +145,50 @@ module _ (es : List Enumeration) (lines : List Line) (v : Variable) (c : CanPutV
   pub input_is : (w : ℕ) (name : List ℕ) → w ≡ sort_bits es v.sort → name ≡ v.name → with_free lines line.Input w name ≡ input_m
   input_is w name e f = ap (λ w. with_free lines line.Input w name) e ∙ ap (with_free lines line.Input (sort_bits es v.sort)) f
 
-  pub state_is : (w : ℕ) (name : List ℕ) (m : Made) → w ≡ sort_bits es v.sort → name ≡ v.name ++ codes ".prev" → m ≡ input_m → with_free m.0 line.State w name ≡ state_m
-  state_is w name m e f g = ap (λ (m : Made). with_free m.0 line.State w name) g ∙ ap (λ w. with_free input_m.0 line.State w name) e ∙ ap (with_free input_m.0 line.State (sort_bits es v.sort)) f
+  pub state_is : (w : ℕ) (name : List ℕ) (m : Built) → w ≡ sort_bits es v.sort → name ≡ v.name ++ codes ".prev" → m ≡ input_m → with_free m.0 line.State w name ≡ state_m
+  state_is w name m e f g = ap (λ (m : Built). with_free m.0 line.State w name) g ∙ ap (λ w. with_free input_m.0 line.State w name) e ∙ ap (with_free input_m.0 line.State (sort_bits es v.sort)) f
 
-  pub next_is : (w : ℕ) (m n : Made) → w ≡ sort_bits es v.sort → m ≡ input_m → n ≡ state_m → with_given n.0 line.Next w n.1 m.1 ≡ next_m
+  pub next_is : (w : ℕ) (m n : Built) → w ≡ sort_bits es v.sort → m ≡ input_m → n ≡ state_m → with_given n.0 line.Next w n.1 m.1 ≡ next_m
   next_is w m n e f g =
-      ap (λ (m : Made). with_given n.0 line.Next w n.1 m.1) f ∙ ap (λ (n : Made). with_given n.0 line.Next w n.1 input_m.1) g ∙ ap (λ w. with_given state_m.0 line.Next w state_m.1 input_m.1) e
+      ap (λ (m : Built). with_given n.0 line.Next w n.1 m.1) f ∙ ap (λ (n : Built). with_given n.0 line.Next w n.1 input_m.1) g ∙ ap (λ w. with_given state_m.0 line.Next w state_m.1 input_m.1) e
 
-  pub variable_is : (m : Made) (new : List Line) → m ≡ input_m → new ≡ next_m → made (with_code es v.sort new m.1) m.1 ≡ with_variable es lines v
-  variable_is m new f g = ap (λ (m : Made). made (with_code es v.sort new m.1) m.1) f ∙ ap (λ new. made (with_code es v.sort new input_m.1) input_m.1) g
+  pub variable_is : (m : Built) (new : List Line) → m ≡ input_m → new ≡ next_m → made (with_code es v.sort new m.1) m.1 ≡ with_variable es lines v
+  variable_is m new f g = ap (λ (m : Built). made (with_code es v.sort new m.1) m.1) f ∙ ap (λ new. made (with_code es v.sort new input_m.1) input_m.1) g
 
-  pub state_can_put : (w : ℕ) (name : List ℕ) (m : Made) → w ≡ sort_bits es v.sort → name ≡ v.name ++ codes ".prev" → m ≡ input_m → CanPutFree m.0 line.State w name
+  pub state_can_put : (w : ℕ) (name : List ℕ) (m : Built) → w ≡ sort_bits es v.sort → name ≡ v.name ++ codes ".prev" → m ≡ input_m → CanPutFree m.0 line.State w name
   state_can_put w name m e f g =
-      subst (λ (m : Made). CanPutFree m.0 line.State w name) (sym g) (subst (λ w. CanPutFree input_m.0 line.State w name) (sym e) (subst (CanPutFree input_m.0 line.State (sort_bits es v.sort)) (sym f)
+      subst (λ (m : Built). CanPutFree m.0 line.State w name) (sym g) (subst (λ w. CanPutFree input_m.0 line.State w name) (sym e) (subst (CanPutFree input_m.0 line.State (sort_bits es v.sort)) (sym f)
       (state_can input_m.0 (sort_bits es v.sort) (v.name ++ codes ".prev") wide.0 wide.1 state_room)))
 
-  pub next_can_put : (w : ℕ) (m n : Made) → w ≡ sort_bits es v.sort → m ≡ input_m → n ≡ state_m → IsWellFormed m.0 → CanPutGiven n.0 line.Next w n.1 m.1
+  pub next_can_put : (w : ℕ) (m n : Built) → w ≡ sort_bits es v.sort → m ≡ input_m → n ≡ state_m → IsWellFormed m.0 → CanPutGiven n.0 line.Next w n.1 m.1
   next_can_put w m n e f g wf =
-      let well : IsWellFormed input_m.0 = subst (λ (m : Made). IsWellFormed m.0) f wf in
+      let well : IsWellFormed input_m.0 = subst (λ (m : Built). IsWellFormed m.0) f wf in
       let o = state_open is_next next_gives input_m.0 (sort_bits es v.sort) (v.name ++ codes ".prev") well wide.0 in
       let i : width_at state_m.0 input_m.1 ≡ sort_bits es v.sort = extends_width input_m.0 state_m.0 input_m.1 (sort_bits es v.sort) wide.0 (state_extends input_m.0 (sort_bits es v.sort) (v.name ++ codes ".prev")) input_wide in
-      subst (λ (m : Made). CanPutGiven n.0 line.Next w n.1 m.1) (sym f) (subst (λ (n : Made). CanPutGiven n.0 line.Next w n.1 input_m.1) (sym g) (subst (λ w. CanPutGiven state_m.0 line.Next w state_m.1 input_m.1) (sym e)
+      subst (λ (m : Built). CanPutGiven n.0 line.Next w n.1 m.1) (sym f) (subst (λ (n : Built). CanPutGiven n.0 line.Next w n.1 input_m.1) (sym g) (subst (λ w. CanPutGiven state_m.0 line.Next w state_m.1 input_m.1) (sym e)
       (next_can state_m.0 (sort_bits es v.sort) state_m.1 input_m.1 wide.0 wide.1 o i next_room)))
 
-  pub code_can_put : (m : Made) (new : List Line) → m ≡ input_m → new ≡ next_m → CanPutCode es v.sort new m.1
+  pub code_can_put : (m : Built) (new : List Line) → m ≡ input_m → new ≡ next_m → CanPutCode es v.sort new m.1
   code_can_put m new f g =
       let i : width_at state_m.0 input_m.1 ≡ sort_bits es v.sort = extends_width input_m.0 state_m.0 input_m.1 (sort_bits es v.sort) wide.0 (state_extends input_m.0 (sort_bits es v.sort) (v.name ++ codes ".prev")) input_wide in
       let j : width_at next_m input_m.1 ≡ sort_bits es v.sort = extends_width state_m.0 next_m input_m.1 (sort_bits es v.sort) wide.0 (next_extends state_m.0 (sort_bits es v.sort) state_m.1 input_m.1) i in
-      subst (λ (m : Made). CanPutCode es v.sort new m.1) (sym f) (subst (λ new. CanPutCode es v.sort new input_m.1) (sym g) (record { codes = c.codes; sort = c.sort; width = j; room = c.room }))
+      subst (λ (m : Built). CanPutCode es v.sort new m.1) (sym f) (subst (λ new. CanPutCode es v.sort new input_m.1) (sym g) (record { codes = c.codes; sort = c.sort; width = j; room = c.room }))
 
 -- ---- all variables
 
-abbrev pub with_one : List Enumeration → AllMade → Variable → AllMade
+abbrev pub with_one : List Enumeration → AllBuilt → Variable → AllBuilt
 with_one es m v = let one = with_variable es m.0 v in (one.0, m.1 ++ one.1 ∷ [])
 
-pub first_variable : (es : List Enumeration) (m : AllMade) (v : Variable) (vs : List Variable) → CanPutVariables es m (v ∷ vs) → CanPutVariable es m.0 v
+pub first_variable : (es : List Enumeration) (m : AllBuilt) (v : Variable) (vs : List Variable) → CanPutVariables es m (v ∷ vs) → CanPutVariable es m.0 v
 first_variable es m v vs c =
     let one = with_variable es m.0 v in
-    let next : AllMade = (one.0, m.1 ++ one.1 ∷ []) in
+    let next : AllBuilt = (one.0, m.1 ++ one.1 ∷ []) in
     record { codes = c.codes; sort = c.sorts.0; room = omega (arith, c.room, extends_long one.0 (with_variables es next vs).0 (all_extend es next vs)) }
 
-pub one_is : (es : List Enumeration) (m : AllMade) (v : Variable) (new : List Line) (input : ℕ) (more : List ℕ) → made new input ≡ with_variable es m.0 v → more ≡ m.1 ++ input ∷ [] → all_made new more ≡ with_one es m v
-one_is es m v new input more e f = ap (all_made new) f ∙ ap (λ (z : Made). all_made z.0 (m.1 ++ z.1 ∷ [])) e
+pub one_is : (es : List Enumeration) (m : AllBuilt) (v : Variable) (new : List Line) (input : ℕ) (more : List ℕ) → made new input ≡ with_variable es m.0 v → more ≡ m.1 ++ input ∷ [] → all_made new more ≡ with_one es m v
+one_is es m v new input more e f = ap (all_made new) f ∙ ap (λ (z : Built). all_made z.0 (m.1 ++ z.1 ∷ [])) e
 
-pub rest_variables : (es : List Enumeration) (m n : AllMade) (v : Variable) (vs : List Variable) → CanPutVariables es m (v ∷ vs) → n ≡ with_one es m v → CanPutVariables es n vs
+pub rest_variables : (es : List Enumeration) (m n : AllBuilt) (v : Variable) (vs : List Variable) → CanPutVariables es m (v ∷ vs) → n ≡ with_one es m v → CanPutVariables es n vs
 rest_variables es m n v vs c e = subst (λ n. CanPutVariables es n vs) (sym e) (record { codes = c.codes; sorts = c.sorts.1; room = c.room })
 
 -- ---- constants of enumerations

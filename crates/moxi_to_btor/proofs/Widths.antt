@@ -10,7 +10,7 @@ use Rattle.btor_tree.specs.declared.lines.Line.{Line}
 use Rattle.btor_tree.specs.declared.lines.LineOp.{LineOp}
 use Rattle.btor_tree.specs.declared.lines.LineOp.TheVariants as line
 use Rattle.btor_tree.specs.Fits.{AreEarlier, greatest_id, has_word, plain_arg, sort_at, width_at}
-use Rattle.btor_tree.specs.Sharing.{GrowsQuietly, is_shared, with_sort}
+use Rattle.btor_tree.specs.Sharing.{GrowsByShared, is_shared, with_sort}
 use Rattle.btor_tree.proofs.AtPlaces.{width_of_line}
 use Rattle.btor_tree.proofs.Alike.{pushed_quiet, pushed_says, pushed_sort}
 use Rattle.moxi_lines.specs.TermLines.{with_binary, with_ite, with_signs, with_slice, with_unary, with_word, with_zeros}
@@ -34,7 +34,7 @@ Room lines o w args = length (with_word lines o w args).0 < greatest_id
 can_put : (lines : List Line) (o : LineOp) (w : ℕ) (args : List Arg) → 1 ≤ w → w ≤ WIDEST → AreEarlier (length lines) args → FitsLater lines o w args → Room lines o w args → CanPut lines o w args
 can_put lines o w args low high earlier fits room =
     let s = with_sort lines w in
-    let g : GrowsQuietly lines s.0 = pushed_quiet lines (line.Sort w) 0 [] None refl in
+    let g : GrowsByShared lines s.0 = pushed_quiet lines (line.Sort w) 0 [] None refl in
     record {
       room = room;
       low = low;
@@ -58,7 +58,7 @@ pub record IsWide (lines : List Line) (p w : ℕ) : Type 0 where
   pub high : w ≤ WIDEST
   pub width : width_at lines p ≡ w
 
-pub later_wide : (a b : List Line) (p w : ℕ) → GrowsQuietly a b → IsWide a p w → IsWide b p w
+pub later_wide : (a b : List Line) (p w : ℕ) → GrowsByShared a b → IsWide a p w → IsWide b p w
 later_wide a b p w g h = record { low = h.low; high = h.high; width = grown_width a b p w h.low g h.width }
 
 inside : (lines : List Line) (p w : ℕ) → IsWide lines p w → p < length lines

@@ -19,7 +19,7 @@ use Rattle.moxi_terms.specs.View.{ScopeState}
 use Rattle.moxi_flat.specs.FlatSystem.{PlainPart}
 use Rattle.moxi_lines.specs.Codes.{sort_bits}
 use Rattle.moxi_lines.specs.TermLaws.{HaveCodes}
-use Rattle.moxi_lines.specs.TermLines.{AllMade, with_binary, with_constant}
+use Rattle.moxi_lines.specs.TermLines.{AllBuilt, with_binary, with_constant}
 use Rattle.moxi_to_btor.specs.Standing.{VariablesAreAsWide}
 use Rattle.moxi_lines.specs.Lines.{first_place, input_place, one_place, state_place, with_code, with_constraint, with_formula, with_free, with_given, with_init, with_inv, with_part, with_parts, with_step, with_trans, with_variable, with_variables, zero_place}
 
@@ -53,7 +53,7 @@ pub record CanPutTruth (lines : List Line) (p : ℕ) : Type 0 where
 
 -- ---- variables
 
--- the code of a variable's value stands at a place
+-- the code of a variable's value is at a place
 pub record CanPutCode (es : List Enumeration) (s : Sort) (lines : List Line) (p : ℕ) : Type 0 where
   pub codes : HaveCodes es
   pub sort : IsSort es s
@@ -74,14 +74,14 @@ pub record CanPutVariable (es : List Enumeration) (lines : List Line) (v : Varia
   pub sort : IsSort es v.sort
   pub room : length (with_variable es lines v).0 < greatest_id
 
-pub record CanPutVariables (es : List Enumeration) (m : AllMade) (vs : List Variable) : Type 0 where
+pub record CanPutVariables (es : List Enumeration) (m : AllBuilt) (vs : List Variable) : Type 0 where
   pub codes : HaveCodes es
   pub sorts : AreSorts es (sorts_of vs)
   pub room : length (with_variables es m vs).0 < greatest_id
 
 -- ---- formulas
 
--- what stands in lines for the formulas of a system
+-- what is in lines for the formulas of a system
 pub record IsSetUp (s : ScopeState) (vars : List Variable) (inputs : List ℕ) (lines : List Line) : Type 0 where
   pub codes : HaveCodes s.enumerations
   pub sound : IsScope s

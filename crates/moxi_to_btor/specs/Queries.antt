@@ -8,9 +8,9 @@ use Rattle.moxi_terms.specs.declared.term.Variable.{Variable}
 use Rattle.moxi_terms.specs.View.{ScopeState}
 use Rattle.moxi_scripts.specs.declared.script.Query.{Query}
 use Rattle.moxi_scripts.specs.Script.{PlainFormula, formula_at}
-use Rattle.moxi_scripts.specs.Whole.{IsWholeQuery}
+use Rattle.moxi_scripts.specs.Valid.{IsValidQuery}
 use Rattle.moxi_flat.specs.FlatSystem.{PlainFlatSystem}
-use Rattle.moxi_lines.specs.TermLines.{AllMade, Made, with_binary}
+use Rattle.moxi_lines.specs.TermLines.{AllBuilt, Built, with_binary}
 use Rattle.moxi_lines.specs.Lines.{Reaching, first_place, has_conditions, with_all_met, with_assumptions, with_conditions, with_currents, with_formula, with_goal, with_latch, with_one_met, with_queries, with_query, with_reachable, with_reachables}
 use Rattle.moxi_to_btor.specs.Putting.{CanPutFormula, IsSetUp, IsTruthOver}
 
@@ -25,7 +25,7 @@ pub record CanPutNumbered (s : ScopeState) (inputs : List ℕ) (lines : List Lin
   pub can : CanPutFormula s inputs lines (formula_at fs i)
 
 -- a formula that counts in frame 0
-abbrev pub current_lines : ScopeState → List ℕ → List Line → List PlainFormula → ℕ → Made
+abbrev pub current_lines : ScopeState → List ℕ → List Line → List PlainFormula → ℕ → Built
 current_lines s inputs lines fs i = let n = with_formula s inputs lines (formula_at fs i) in with_binary two.Implies n.0 first_place n.1
 
 pub record CanPutCurrent (s : ScopeState) (inputs : List ℕ) (lines : List Line) (fs : List PlainFormula) (i : ℕ) : Type 0 where
@@ -38,7 +38,7 @@ pub record CanPutCurrent (s : ScopeState) (inputs : List ℕ) (lines : List Line
 abbrev pub AreTruthsOver : PlainFlatSystem → List PlainFormula → Type 0
 AreTruthsOver f fs = AllByRecursion (λ (x : PlainFormula). IsTruthOver f.scope f.variables x.term) fs
 
--- what stands in lines for the queries of a system
+-- what is in lines for the queries of a system
 pub record IsReady (f : PlainFlatSystem) (inputs : List ℕ) (lines : List Line) : Type 0 where
   pub there : IsSetUp f.scope f.variables inputs lines
   pub assumptions : AreTruthsOver f f.assumptions
@@ -48,18 +48,18 @@ pub record IsReady (f : PlainFlatSystem) (inputs : List ℕ) (lines : List Line)
 abbrev pub AreWithin : ℕ → List ℕ → Type 0
 AreWithin n is = AllByRecursion (λ (i : ℕ). i < n) is
 
-pub record CanPutAssumptions (f : PlainFlatSystem) (inputs : List ℕ) (m : AllMade) (is : List ℕ) : Type 0 where
+pub record CanPutAssumptions (f : PlainFlatSystem) (inputs : List ℕ) (m : AllBuilt) (is : List ℕ) : Type 0 where
   pub ready : IsReady f inputs m.0
   pub within : AreWithin (length f.assumptions) is
   pub room : length (with_assumptions f inputs m is).0 < greatest_id
 
-pub record CanPutCurrents (f : PlainFlatSystem) (inputs : List ℕ) (m : AllMade) (is : List ℕ) : Type 0 where
+pub record CanPutCurrents (f : PlainFlatSystem) (inputs : List ℕ) (m : AllBuilt) (is : List ℕ) : Type 0 where
   pub ready : IsReady f inputs m.0
   pub within : AreWithin (length f.currents) is
   pub room : length (with_currents f inputs m is).0 < greatest_id
 
 abbrev pub IsQueryOf : PlainFlatSystem → Query → Type 0
-IsQueryOf f q = IsWholeQuery (length f.assumptions) (length f.currents) (length f.reachables) q
+IsQueryOf f q = IsValidQuery (length f.assumptions) (length f.currents) (length f.reachables) q
 
 pub record CanPutConditions (f : PlainFlatSystem) (inputs : List ℕ) (lines : List Line) (q : Query) : Type 0 where
   pub ready : IsReady f inputs lines
@@ -98,7 +98,7 @@ pub record CanPutOneMet (lines : List Line) (p : ℕ) (before : List ℕ) : Type
   pub room : length (with_one_met (lines, p) before).0 < greatest_id
 
 -- the word of a query of several reachable formulas
-abbrev pub several_lines : PlainFlatSystem → List ℕ → Query → List ℕ → List Line → Made
+abbrev pub several_lines : PlainFlatSystem → List ℕ → Query → List ℕ → List Line → Built
 several_lines f inputs q before lines = with_all_met (with_reachables f inputs q.name (reaching lines [] []) q.reachables) before
 
 pub record CanPutSeveral (f : PlainFlatSystem) (inputs : List ℕ) (q : Query) (before : List ℕ) (lines : List Line) : Type 0 where
@@ -114,7 +114,7 @@ pub record CanPutGoal (f : PlainFlatSystem) (inputs : List ℕ) (q : Query) (bef
   pub room : length (with_goal f inputs q before lines q.reachables).0 < greatest_id
 
 -- the word of a query, behind its conditions where it has any
-abbrev pub whole_goal : PlainFlatSystem → List ℕ → List Line → Query → Made
+abbrev pub whole_goal : PlainFlatSystem → List ℕ → List Line → Query → Built
 whole_goal f inputs lines q =
     let chain = with_conditions f inputs lines q in
     if has_conditions q.assumptions q.currents then with_goal f inputs q (chain.1 ∷ []) chain.0 q.reachables else with_goal f inputs q [] lines q.reachables

@@ -19,7 +19,7 @@ use Rattle.moxi_terms.specs.declared.data.TermOp.{TermOp}
 use Rattle.moxi_terms.specs.declared.data.TermOp.TheVariants as op
 use Rattle.moxi_terms.specs.declared.term.Enumeration.{Enumeration}
 use Rattle.moxi_lines.specs.Codes.{code_of}
-use Rattle.moxi_lines.specs.TermLines.{Made, neighbours, paired_lines, pairs_of, with_binary, with_implication, with_word}
+use Rattle.moxi_lines.specs.TermLines.{Built, neighbours, paired_lines, pairs_of, with_binary, with_implication, with_word}
 
 -- there is room for a line of this width, and it fits behind its sort
 pub record CanPut (lines : List Line) (o : LineOp) (w : ℕ) (args : List Arg) : Type 0 where
@@ -76,7 +76,7 @@ CanPutDatum es lines (datum.Constant n i) =
 -- ---- chains
 
 -- an operator on each word and the chain before it
-abbrev pub CanFold : Binary → Made → List ℕ → Type 0
+abbrev pub CanFold : Binary → Built → List ℕ → Type 0
 CanFold b m [] = Unit {0}
 CanFold b m (q ∷ qs) = CanPutBinary b m.0 m.1 q × CanFold b (with_binary b m.0 m.1 q) qs
 
@@ -85,11 +85,11 @@ CanChain b lines [] = Unit {0}
 CanChain b lines (p ∷ ps) = CanFold b (lines, p) ps
 
 -- an implication by each of these words, the last first
-abbrev pub implied_onto : List ℕ → Made → Made
+abbrev pub implied_onto : List ℕ → Built → Built
 implied_onto [] m = m
 implied_onto (p ∷ ps) m = with_implication p (implied_onto ps m)
 
-abbrev pub CanImply : List ℕ → Made → Type 0
+abbrev pub CanImply : List ℕ → Built → Type 0
 CanImply [] m = Unit {0}
 CanImply (p ∷ ps) m = CanImply ps m × CanPutBinary two.Implies (implied_onto ps m).0 p (implied_onto ps m).1
 

@@ -1,4 +1,4 @@
--- The lines of terms over variables whose words stand at places.
+-- The lines of terms over variables whose words are at places.
 use Rattle.std.specs.Prelude.{◌≡◌, ℕ, suc, ◌<◌, ◌≤◌, Some, List, [], length, map, take, slice_get}
 use Rattle.btor_tree.specs.declared.lines.Line.{Line}
 use Rattle.btor_tree.specs.Fits.{greatest_id}
@@ -8,7 +8,7 @@ use Rattle.moxi_terms.specs.Sorted.{AreFunctions, HasSort, HaveSorts}
 use Rattle.moxi_terms.specs.Tree.{Tree, Trees, PlainFunction, sorts_of}
 use Rattle.moxi_terms.specs.View.{ScopeState, plain_function}
 use Rattle.moxi_lines.specs.TermLaws.{HaveCodes}
-use Rattle.moxi_lines.specs.TermLines.{AllMade, Made, call_lines, place_in, with_term, with_terms}
+use Rattle.moxi_lines.specs.TermLines.{AllBuilt, Built, call_lines, place_in, with_term, with_terms}
 use Rattle.moxi_to_btor.specs.declared.terms.Places.{Places}
 use Rattle.moxi_to_btor.specs.declared.terms.Places.TheVariants.{At, Behind}
 use Rattle.moxi_to_btor.specs.declared.terms.Scene.{Scene}
@@ -20,10 +20,10 @@ place_by (At ps) v = place_in ps.now v
 place_by (Behind ps) v = suc (place_in ps.now v)
 
 -- the lines of a term over all functions of a scope
-abbrev pub whole_lines : ScopeState → (ℕ → ℕ) → (ℕ → ℕ) → List Line → Tree → Made
+abbrev pub whole_lines : ScopeState → (ℕ → ℕ) → (ℕ → ℕ) → List Line → Tree → Built
 whole_lines s now later lines t = with_term s.enumerations (call_lines s.enumerations s.functions (length s.functions)) now later [] lines t
 
--- the term has a sort over some variables that stand at the places, and there is room for its lines
+-- the term has a sort over some variables that are at the places, and there is room for its lines
 pub record CanPutWhole (s : ScopeState) (now later : ℕ → ℕ) (lines : List Line) (t : Tree) : Type 0 where
   pub vars : List Sort
   pub sort : Sort
@@ -38,16 +38,16 @@ pub record CanPutWhole (s : ScopeState) (now later : ℕ → ℕ) (lines : List 
 abbrev pub functions_in : Scene → List PlainFunction
 functions_in s = map plain_function s.functions.now
 
-abbrev pub call_lines_in : Scene → ℕ → List Line → List ℕ → Made
+abbrev pub call_lines_in : Scene → ℕ → List Line → List ℕ → Built
 call_lines_in s n lines ps = call_lines s.enumerations.now (functions_in s) s.upto n lines ps
 
-abbrev pub lines_in : Scene → List ℕ → List Line → Tree → Made
+abbrev pub lines_in : Scene → List ℕ → List Line → Tree → Built
 lines_in s bounds lines t = with_term s.enumerations.now (call_lines s.enumerations.now (functions_in s) s.upto) (place_by s.now) (place_by s.later) bounds lines t
 
-abbrev pub all_lines_in : Scene → List ℕ → List Line → Trees → AllMade
+abbrev pub all_lines_in : Scene → List ℕ → List Line → Trees → AllBuilt
 all_lines_in s bounds lines ts = with_terms s.enumerations.now (call_lines s.enumerations.now (functions_in s) s.upto) (place_by s.now) (place_by s.later) bounds lines ts
 
--- what stands in lines for a term: its variables and what is bound around it
+-- what is in lines for a term: its variables and what is bound around it
 pub record IsThere (es : List Enumeration) (fs : List PlainFunction) (upto : ℕ) (vars sorts : List Sort) (now later : ℕ → ℕ) (bounds : List ℕ) (lines : List Line) : Type 0 where
   pub within : upto ≤ length fs
   pub codes : HaveCodes es

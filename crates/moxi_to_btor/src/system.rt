@@ -1,6 +1,6 @@
 // The lines of a flat system.
 ghost use Rattle.std.specs.Prelude.{◌≡◌, ◌+◌, ◌-◌, ◌*◌, ◌^◌, min, [], length, IfOk, OnOk};
-ghost use Rattle.btor_tree.specs.Sharing.{HasNoTwoAlike};
+ghost use Rattle.btor_tree.specs.Sharing.{HasNoDuplicates};
 ghost use Rattle.moxi_lines.specs.TermLaws.{HaveCodes};
 ghost use Rattle.moxi_lines.specs.Lines.{head_lines, lines_of};
 ghost use Rattle.moxi_to_btor.specs.Systems.{AreFew, IsKnown, constant_lines};
@@ -74,7 +74,7 @@ fn room_for(system: &FlatSystem) -> usize
 /// then at most 2 lines for each unit of the system's size, 6 for each variable and each query, and 150 more.
 pub fn to_btor(alloc: Global, system: &FlatSystem) -> Result<Nodes, NoMemory>
     ensures lines { IfOk result (λ nodes. nodes ≡ lines_of system.now) }
-    ensures distinct { IfOk result (λ nodes. HasNoTwoAlike nodes) }
+    ensures distinct { IfOk result (λ nodes. HasNoDuplicates nodes) }
     ensures few { IfOk result (AreFew system.now) }
 {
     let scope = system.scope();

@@ -63,15 +63,15 @@ some_none x e = none-some x (sym e)
 
 -- ---- what is stated fits
 
-abbrev CanStand : List Enumeration → Sort → Option Datum → Type 0
-CanStand es s None = Unit {0}
-CanStand es s (Some x) = IsOf es s x
+abbrev CanAppear : List Enumeration → Sort → Option Datum → Type 0
+CanAppear es s None = Unit {0}
+CanAppear es s (Some x) = IsOf es s x
 
 abbrev AreFit : List Enumeration → List Variable → List (Option Datum) → Type 0
 AreFit es [] [] = Unit {0}
 AreFit es [] (x ∷ xs) = ⊥
 AreFit es (v ∷ vs) [] = ⊥
-AreFit es (v ∷ vs) (x ∷ xs) = CanStand es v.sort x × AreFit es vs xs
+AreFit es (v ∷ vs) (x ∷ xs) = CanAppear es v.sort x × AreFit es vs xs
 
 nothing_fits : (es : List Enumeration) (vs : List Variable) → AreFit es vs (nothing_stated vs)
 nothing_fits es [] = tt
@@ -111,31 +111,31 @@ Between d q n = HasQuery d q × (is_within d n ≡ true)
 abbrev Inside : Declared → ℕ → ℕ → Type 0
 Inside d q n = HasQuery d q × (is_within d (n + 1) ≡ true)
 
-abbrev MayStand : Declared → Point → ℕ → ℕ → Type 0
-MayStand d (point.Head k) q n = (n ≡ 0) × (4 ≤ k → HasQuery d q)
-MayStand d point.System q n = n ≡ 0
-MayStand d point.Query q n = n ≡ 0
-MayStand d point.Steps q n = Between d q n
-MayStand d point.Number q n = Inside d q n
-MayStand d point.Statements q n = Inside d q n
-MayStand d point.Variable q n = Inside d q n
-MayStand d (point.Value k) q n = Inside d q n
-MayStand d point.AnyValue q n = Inside d q n
-MayStand d point.Stated q n = Inside d q n
-MayStand d point.Last q n = Between d q n
-MayStand d point.Whole q n = Between d q n
+abbrev MayAppear : Declared → Point → ℕ → ℕ → Type 0
+MayAppear d (point.Head k) q n = (n ≡ 0) × (4 ≤ k → HasQuery d q)
+MayAppear d point.System q n = n ≡ 0
+MayAppear d point.Query q n = n ≡ 0
+MayAppear d point.Steps q n = Between d q n
+MayAppear d point.Number q n = Inside d q n
+MayAppear d point.Statements q n = Inside d q n
+MayAppear d point.Variable q n = Inside d q n
+MayAppear d (point.Value k) q n = Inside d q n
+MayAppear d point.AnyValue q n = Inside d q n
+MayAppear d point.Stated q n = Inside d q n
+MayAppear d point.Last q n = Between d q n
+MayAppear d point.Whole q n = Between d q n
 
 -- where no test fails
-abbrev StandsAt : Declared → Point → Reading → Type 0
-StandsAt d p r = r.failing ≡ None → IsGood d r × MayStand d p r.query (length r.steps)
+abbrev ComesAt : Declared → Point → Reading → Type 0
+ComesAt d p r = r.failing ≡ None → IsGood d r × MayAppear d p r.query (length r.steps)
 
 abbrev IsSound : Declared → Reading → Type 0
-IsSound d r = StandsAt d r.point r
+IsSound d r = ComesAt d r.point r
 
 failing_sound : (d : Declared) (n : ℕ) (at : Place) (r : Reading) → IsSound d (with_failing n at r)
 failing_sound d n at r e = absurd (some_none (first_of (record { number = n; place = at }) r.failing) e)
 
-moved : (d : Declared) (p q : Point) (r : Reading) → (MayStand d p r.query (length r.steps) → MayStand d q r.query (length r.steps)) → StandsAt d p r → IsSound d (at_point q r)
+moved : (d : Declared) (p q : Point) (r : Reading) → (MayAppear d p r.query (length r.steps) → MayAppear d q r.query (length r.steps)) → ComesAt d p r → IsSound d (at_point q r)
 moved d p q r f s e = let h = s e in (record { stated = h.0.stated; steps = h.0.steps }, f h.1)
 
 at_four : (n : ℕ) → eqb n 3 ≡ false → 4 ≤ n + 1 → 4 ≤ n
@@ -147,16 +147,16 @@ zero_within n = grind (arith, nat_tests)
 within_none : (d : Declared) (n : ℕ) → n ≡ 0 → is_within d n ≡ true
 within_none d n e = subst (λ (m : ℕ). is_within d m ≡ true) (sym e) (zero_within (length d.variables))
 
-past_may : (d : Declared) (k q n : ℕ) → MayStand d (point.Head k) q n → MayStand d (past_head k) q n
+past_may : (d : Declared) (k q n : ℕ) → MayAppear d (point.Head k) q n → MayAppear d (past_head k) q n
 past_may d k q n m = go (eqb k 1) (eqb k 3) refl (nat_le 17 k) refl
   where
-    go : (a b : Bool) → eqb k 3 ≡ b → (c : Bool) → nat_le 17 k ≡ c → MayStand d (cond a point.System (cond b point.Query (cond c point.Steps (point.Head (k + 1))))) q n
+    go : (a b : Bool) → eqb k 3 ≡ b → (c : Bool) → nat_le 17 k ≡ c → MayAppear d (cond a point.System (cond b point.Query (cond c point.Steps (point.Head (k + 1))))) q n
     go true b f c g = m.0
     go false true f c g = m.0
     go false false f true g = (m.1 (omega (arith, leb-true 17 k g)), within_none d n m.0)
     go false false f false g = (m.0, λ h. m.1 (at_four k f h))
 
-head_sound : (d : Declared) (k : ℕ) (s : Shape) (bytes : List ℕ) (at : Place) (r q : Reading) → StandsAt d (point.Head k) r → head_step k s bytes at r ≡ Ok q → IsSound d q
+head_sound : (d : Declared) (k : ℕ) (s : Shape) (bytes : List ℕ) (at : Place) (r q : Reading) → ComesAt d (point.Head k) r → head_step k s bytes at r ≡ Ok q → IsSound d q
 head_sound d k s bytes at r q h e =
     let t = taken (is_head_token k s bytes) (Ok (at_point (past_head k) r)) 1 at q e in
     subst (IsSound d) (same_ok (at_point (past_head k) r) q t.1) (moved d (point.Head k) (past_head k) r (past_may d k r.query (length r.steps)) h)
@@ -164,7 +164,7 @@ head_sound d k s bytes at r q h e =
 no_query : (d : Declared) (q : ℕ) → 4 ≤ 2 → HasQuery d q
 no_query d q h = absurd (let g : 4 ≤ 2 = h in omega (arith, g))
 
-system_sound : (d : Declared) (s : Shape) (bytes : List ℕ) (at : Place) (r q : Reading) → StandsAt d point.System r → symbol_step s at (system_named d bytes at (at_point (point.Head 2) r)) ≡ Ok q → IsSound d q
+system_sound : (d : Declared) (s : Shape) (bytes : List ℕ) (at : Place) (r q : Reading) → ComesAt d point.System r → symbol_step s at (system_named d bytes at (at_point (point.Head 2) r)) ≡ Ok q → IsSound d q
 system_sound d s bytes at r q h e =
     let r2 = at_point (point.Head 2) r in
     let t = taken (is_symbol s) (Ok (system_named d bytes at r2)) 1 at q e in
@@ -174,7 +174,7 @@ system_sound d s bytes at r q h e =
     go true = moved d point.System (point.Head 2) r (λ m. (m, no_query d r.query)) h
     go false = failing_sound d 2 at (at_point (point.Head 2) r)
 
-query_sound : (d : Declared) (s : Shape) (bytes : List ℕ) (at : Place) (r q : Reading) → StandsAt d point.Query r → symbol_step s at (query_named (place_of d.queries bytes) at (at_point (point.Head 4) r)) ≡ Ok q → IsSound d q
+query_sound : (d : Declared) (s : Shape) (bytes : List ℕ) (at : Place) (r q : Reading) → ComesAt d point.Query r → symbol_step s at (query_named (place_of d.queries bytes) at (at_point (point.Head 4) r)) ≡ Ok q → IsSound d q
 query_sound d s bytes at r q h e =
     let r2 = at_point (point.Head 4) r in
     let t = taken (is_symbol s) (Ok (query_named (place_of d.queries bytes) at r2)) 1 at q e in
@@ -184,7 +184,7 @@ query_sound d s bytes at r q h e =
     go None p = failing_sound d 2 at (at_point (point.Head 4) r)
     go (Some k) p = λ n. (let g = h n in (record { stated = g.0.stated; steps = g.0.steps }, (g.1, λ m. (position-Some (bytes_eq bytes) d.queries k [] p).0)))
 
-steps_sound : (d : Declared) (s : Shape) (at : Place) (r q : Reading) → StandsAt d point.Steps r → steps_step d s at r ≡ Ok q → IsSound d q
+steps_sound : (d : Declared) (s : Shape) (at : Place) (r q : Reading) → ComesAt d point.Steps r → steps_step d s at r ≡ Ok q → IsSound d q
 steps_sound d shape.Open at r q h e = subst (IsSound d) (same_ok (step_begun d at r) q e) (go (is_within d (length r.steps + 1)) refl)
   where
     go : (b : Bool) → is_within d (length r.steps + 1) ≡ b → IsSound d (cond b (at_point point.Number (record r { step = at })) (with_failing 5 at (at_point point.Number (record r { step = at }))))
@@ -197,12 +197,12 @@ steps_sound d shape.Numeral at r q h e = absurd (none_refused 1 at q e)
 steps_sound d shape.Binary at r q h e = absurd (none_refused 1 at q e)
 steps_sound d shape.Other at r q h e = absurd (none_refused 1 at q e)
 
-number_sound : (d : Declared) (s : Shape) (digits : List ℕ) (at : Place) (r q : Reading) → StandsAt d point.Number r → number_step s digits at r ≡ Ok q → IsSound d q
+number_sound : (d : Declared) (s : Shape) (digits : List ℕ) (at : Place) (r q : Reading) → ComesAt d point.Number r → number_step s digits at r ≡ Ok q → IsSound d q
 number_sound d s digits at r q h e =
     let t = taken (is_numeral s && is_number (length r.steps) digits) (Ok (at_point point.Statements r)) 1 at q e in
     subst (IsSound d) (same_ok (at_point point.Statements r) q t.1) (moved d point.Number point.Statements r (λ m. m) h)
 
-ended_step_sound : (d : Declared) (r : Reading) → StandsAt d point.Statements r → IsSound d (with_step d (tested r))
+ended_step_sound : (d : Declared) (r : Reading) → ComesAt d point.Statements r → IsSound d (with_step d (tested r))
 ended_step_sound d r h = go (lacks r.stated) refl
   where
     long : (x : List Datum) → length (r.steps ++ x ∷ []) ≡ length r.steps + 1
@@ -218,7 +218,7 @@ ended_step_sound d r h = go (lacks r.stated) refl
       (g.1.0, ap (is_within d) (long (values_of r.stated)) ∙ g.1.1),
     ))
 
-statements_sound : (d : Declared) (s : Shape) (at : Place) (r q : Reading) → StandsAt d point.Statements r → statements_step d s at r ≡ Ok q → IsSound d q
+statements_sound : (d : Declared) (s : Shape) (at : Place) (r q : Reading) → ComesAt d point.Statements r → statements_step d s at r ≡ Ok q → IsSound d q
 statements_sound d shape.Open at r q h e = subst (IsSound d) (same_ok (at_point point.Variable r) q e) (moved d point.Statements point.Variable r (λ m. m) h)
 statements_sound d shape.Close at r q h e = subst (IsSound d) (same_ok (with_step d (tested r)) q e) (ended_step_sound d r h)
 statements_sound d shape.Symbol at r q h e = absurd (none_refused 1 at q e)
@@ -227,13 +227,13 @@ statements_sound d shape.Numeral at r q h e = absurd (none_refused 1 at q e)
 statements_sound d shape.Binary at r q h e = absurd (none_refused 1 at q e)
 statements_sound d shape.Other at r q h e = absurd (none_refused 1 at q e)
 
-named_sound : (d : Declared) (o : Option ℕ) (at : Place) (r q : Reading) → StandsAt d point.Variable r → variable_named o at r ≡ Ok q → IsSound d q
+named_sound : (d : Declared) (o : Option ℕ) (at : Place) (r q : Reading) → ComesAt d point.Variable r → variable_named o at r ≡ Ok q → IsSound d q
 named_sound d None at r q h e = subst (IsSound d) (same_ok (with_failing 2 at (at_point point.AnyValue r)) q e) (failing_sound d 2 at (at_point point.AnyValue r))
 named_sound d (Some k) at r q h e =
     let t = passed_by (is_stated r.stated k) (Ok (at_point (point.Value k) r)) 1 at q e in
     subst (IsSound d) (same_ok (at_point (point.Value k) r) q t.1) (moved d point.Variable (point.Value k) r (λ m. m) h)
 
-variable_sound : (d : Declared) (s : Shape) (name : List ℕ) (at : Place) (r q : Reading) → StandsAt d point.Variable r → variable_step d s name at r ≡ Ok q → IsSound d q
+variable_sound : (d : Declared) (s : Shape) (name : List ℕ) (at : Place) (r q : Reading) → ComesAt d point.Variable r → variable_step d s name at r ≡ Ok q → IsSound d q
 variable_sound d s name at r q h e =
     let t = taken (is_symbol s) (variable_named (place_of (names_of d.variables) name) at r) 1 at q e in
     named_sound d (place_of (names_of d.variables) name) at r q h t.1
@@ -242,7 +242,7 @@ at_variable : (d : Declared) (s : Shape) (bytes : List ℕ) (o : Option Variable
 at_variable d s bytes None x e = absurd (none-some x e)
 at_variable d s bytes (Some v) x e = (v, refl, value_fits d.enumerations v.sort s bytes x e)
 
-value_sound : (d : Declared) (k : ℕ) (s : Shape) (bytes : List ℕ) (at : Place) (r q : Reading) → StandsAt d (point.Value k) r → value_step d k s bytes at r ≡ Ok q → IsSound d q
+value_sound : (d : Declared) (k : ℕ) (s : Shape) (bytes : List ℕ) (at : Place) (r q : Reading) → ComesAt d (point.Value k) r → value_step d k s bytes at r ≡ Ok q → IsSound d q
 value_sound d k s bytes at r q h e =
     let t = passed_by (is_bracket s) (Ok (value_read k (value_at d k s bytes) at r)) 1 at q e in
     subst (IsSound d) (same_ok (value_read k (value_at d k s bytes) at r) q t.1) (go (value_at d k s bytes) refl)
@@ -252,12 +252,12 @@ value_sound d k s bytes at r q h e =
     go (Some x) v = λ n. (let g = h n in let w = at_variable d s bytes (slice_get d.variables k) x v in
         (record { stated = set_fits d.enumerations d.variables r.stated k w.0 x w.1 w.2 g.0.stated; steps = g.0.steps }, g.1))
 
-any_sound : (d : Declared) (s : Shape) (at : Place) (r q : Reading) → StandsAt d point.AnyValue r → any_step s at r ≡ Ok q → IsSound d q
+any_sound : (d : Declared) (s : Shape) (at : Place) (r q : Reading) → ComesAt d point.AnyValue r → any_step s at r ≡ Ok q → IsSound d q
 any_sound d s at r q h e =
     let t = passed_by (is_bracket s) (Ok (at_point point.Stated r)) 1 at q e in
     subst (IsSound d) (same_ok (at_point point.Stated r) q t.1) (moved d point.AnyValue point.Stated r (λ m. m) h)
 
-close_sound : (d : Declared) (p n : Point) (s : Shape) (at : Place) (r q : Reading) → (MayStand d p r.query (length r.steps) → MayStand d n r.query (length r.steps)) → StandsAt d p r → close_step n s at r ≡ Ok q → IsSound d q
+close_sound : (d : Declared) (p n : Point) (s : Shape) (at : Place) (r q : Reading) → (MayAppear d p r.query (length r.steps) → MayAppear d n r.query (length r.steps)) → ComesAt d p r → close_step n s at r ≡ Ok q → IsSound d q
 close_sound d p n shape.Close at r q f h e = subst (IsSound d) (same_ok (at_point n r) q e) (moved d p n r f h)
 close_sound d p n shape.Open at r q f h e = absurd (none_refused 1 at q e)
 close_sound d p n shape.Symbol at r q f h e = absurd (none_refused 1 at q e)
@@ -266,7 +266,7 @@ close_sound d p n shape.Numeral at r q f h e = absurd (none_refused 1 at q e)
 close_sound d p n shape.Binary at r q f h e = absurd (none_refused 1 at q e)
 close_sound d p n shape.Other at r q f h e = absurd (none_refused 1 at q e)
 
-point_sound : (d : Declared) (p : Point) (s : Shape) (bytes : List ℕ) (at : Place) (r q : Reading) → StandsAt d p r → point_step d p s bytes at r ≡ Ok q → IsSound d q
+point_sound : (d : Declared) (p : Point) (s : Shape) (bytes : List ℕ) (at : Place) (r q : Reading) → ComesAt d p r → point_step d p s bytes at r ≡ Ok q → IsSound d q
 point_sound d (point.Head k) s bytes at r q h e = head_sound d k s bytes at r q h e
 point_sound d point.System s bytes at r q h e = system_sound d s bytes at r q h e
 point_sound d point.Query s bytes at r q h e = query_sound d s bytes at r q h e
@@ -323,7 +323,7 @@ byte_sound d at b bs x y h e = go (eqb x.0 0) (is_blank b) e
     go true false e = token_sound d at bs x.1 (token_of (b ∷ bs)) y h e
     go false w e = behind_sound d (x.0 - 1) x.1 y h e
 
-whole_may : (d : Declared) (p : Point) (q n : ℕ) → is_whole p ≡ true → MayStand d p q n → Between d q n
+whole_may : (d : Declared) (p : Point) (q n : ℕ) → is_whole p ≡ true → MayAppear d p q n → Between d q n
 whole_may d point.Whole q n e m = m
 whole_may d (point.Head k) q n e m = absurd (let g : false ≡ true = e in cc)
 whole_may d point.System q n e m = absurd (let g : false ≡ true = e in cc)

@@ -135,7 +135,7 @@ numbers_step d q vs ss s =
     let digits = decimal (length ss) in
     (s, cond-true (is_number (length ss) digits) _ _ ((bytes_eq-Decides (without_zeros digits) (without_zeros digits)).1 refl))
 
--- what stands behind a step's number
+-- what is behind a step's number
 abbrev Follows : List ℕ → Type 0
 Follows text = (b : ℕ) × (rest : List ℕ) × (text ≡ b ∷ rest) × Parts b
 

@@ -14,7 +14,7 @@ use Rattle.moxi_trace.specs.Texts.{constant_name}
 use Rattle.moxi_trace.specs.Values.{symbol_value}
 use Rattle.moxi_term_print.specs.Terms.{name_at}
 
--- the name can stand in bars
+-- the name can appear in bars
 abbrev pub CanBeSpelled : List ℕ → Type 0
 CanBeSpelled name = list_all is_barred_byte name ≡ true
 

@@ -57,7 +57,7 @@ abbrev pub settled_by : Option Failing → Reading → Result Reading Refusal
 settled_by None r = Ok r
 settled_by (Some f) r = refused f.number f.place
 
--- a token stands in this line: in a new one, what failed in the line before is answered
+-- a token is in this line: in a new one, what failed in the line before is answered
 abbrev pub on_line : ℕ → Reading → Result Reading Refusal
 on_line line r = if line == r.line then Ok r else settled_by r.failing (record r { line = line })
 
@@ -82,7 +82,7 @@ is_head_token n shape.Symbol bytes = is_head_symbol n bytes
 is_head_token n shape.Keyword bytes = is_head_keyword n bytes
 is_head_token n k bytes = false
 
--- the names of the system and of the query stand behind the second and the fourth
+-- the names of the system and of the query are behind the second and the fourth
 abbrev pub past_head : ℕ → Point
 past_head n = if n == 1 then point.System else (if n == 3 then point.Query else (if nat_le 17 n then point.Steps else point.Head (n + 1)))
 

@@ -46,7 +46,7 @@ statements_text es (v ∷ vs) (x ∷ xs) = statement_text es v x ++ statements_t
 abbrev pub front_text : Variable → List ℕ
 front_text v = codes " (" ++ (symbol_text v.name ++ codes " ")
 
--- the statements, of what stands before each value
+-- the statements, of what is before each value
 abbrev pub fronted_text : List Enumeration → List (List ℕ) → List Datum → List ℕ
 fronted_text es fs [] = []
 fronted_text es [] (x ∷ xs) = []

@@ -16,7 +16,7 @@ belongs class.Binary b = is_binary_digit b
 belongs class.Hexadecimal b = is_hex_digit b
 belongs class.Barred b = is_barred_byte b
 
--- a token's shape, its bytes without the signs around them, and what stands behind it
+-- a token's shape, its bytes without the signs around them, and what is behind it
 abbrev pub Scan : Type 0
 Scan = Option (Shape × List ℕ × List ℕ)
 

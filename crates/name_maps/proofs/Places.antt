@@ -4,7 +4,7 @@ use Rattle.std.specs.List.{slice_get, position_or_len}
 use Rattle.std.specs.Str.{bytes_eq}
 use Rattle.std.proofs.lemmas.Slice.Eq.{bytes_eq-Decides}
 use Rattle.name_maps.specs.Names.{place_of}
-use Rattle.name_maps.specs.Tables.{StandOnce}
+use Rattle.name_maps.specs.Tables.{AreDistinct}
 use Rattle.name_maps.specs.laws.Places.{lt_more}
 
 first_place : (n : ℕ) → nat_lt 0 (suc n) ≡ true
@@ -55,9 +55,9 @@ either (y ∷ ys) x name (suc k) e = by (either ys x name k e)
     by (inl h) = inl h
     by (inr h) = inr (ap suc h.0, h.1)
 
--- with a new name behind them none stands twice
-pub stand_once : (names : List (List ℕ)) (x : List ℕ) → is_none (place_of names x) ≡ true → StandOnce names → StandOnce (names ++ x ∷ [])
-stand_once names x fresh once k name e = by (either names x name k e)
+-- with a new name behind them none occurs twice
+pub occur_once : (names : List (List ℕ)) (x : List ℕ) → is_none (place_of names x) ≡ true → AreDistinct names → AreDistinct (names ++ x ∷ [])
+occur_once names x fresh once k name e = by (either names x name k e)
   where
     none : (o : Option ℕ) → is_none o ≡ true → o ≡ None
     none None h = refl

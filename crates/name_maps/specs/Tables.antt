@@ -1,7 +1,7 @@
--- Lists of names in which none stands twice.
+-- Lists of names in which none occurs twice.
 use Rattle.std.specs.Prelude.{◌≡◌, ℕ, List, Some, slice_get}
 use Rattle.name_maps.specs.Names.{place_of}
 
--- the place of each name is the one where it stands
-abbrev pub StandOnce : List (List ℕ) → Type 0
-StandOnce names = (k : ℕ) (name : List ℕ) → slice_get names k ≡ Some name → place_of names name ≡ Some k
+-- the place of each name is the one where it is
+abbrev pub AreDistinct : List (List ℕ) → Type 0
+AreDistinct names = (k : ℕ) (name : List ℕ) → slice_get names k ≡ Some name → place_of names name ≡ Some k

@@ -16,13 +16,13 @@ pub struct NameTable {
 
 impl Model for NameTable {
     ghost use Rattle.std.specs.Prelude.{◌≡◌, List, ℕ};
-    ghost use Rattle.name_maps.specs.Tables.{StandOnce};
+    ghost use Rattle.name_maps.specs.Tables.{AreDistinct};
 
     ghost Value = { List (List ℕ) };
 
     ghost view = { λ t. t.set };
 
-    ghost invariant = { λ t. (t.names ≡ t.set) × StandOnce t.set };
+    ghost invariant = { λ t. (t.names ≡ t.set) × AreDistinct t.set };
 }
 
 impl NameTable {
@@ -50,7 +50,7 @@ impl NameTable {
         self.set.place(name)
     }
 
-    /// Returns whether this name stands at this index.
+    /// Returns whether this name is at this index.
     ///
     /// An index past the last name is allowed.
     pub fn is_at(&self, place: usize, name: &[u8]) -> bool

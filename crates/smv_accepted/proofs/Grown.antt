@@ -235,7 +235,7 @@ below_other (c ∷ p) names q b e =
     longer (d ∷ f) r e = longer f r (let g : f ++ 46 ∷ r ≡ f = cc in g)
 
 -- an instance and all below it
-pub record GrownWhole (p : List ℕ) (t all : List Instance) : Type 0 where
+pub record GrownComplete (p : List ℕ) (t all : List Instance) : Type 0 where
   pub new : List Instance
   pub is : all ≡ t ++ new
   pub well : AllByRecursion IsWellNamed new
@@ -246,10 +246,10 @@ items_well : (m : PlainModule) → HasIdentifiers m → AllByRecursion IsItemWel
 items_well m h =
     all_unmapped IsIdentifier item_name (flat_map element_items m.elements) (all_within IsIdentifier (items_within m) (all_mapped IsIdentifier name_of (declared_in m) h.declared))
 
-grows_from : (g : Instance → List Instance → List Instance) → ((at : Instance) (t : List Instance) → IsWellNamed at → GrownWhole at.path t (g at t)) → Grows g
+grows_from : (g : Instance → List Instance → List Instance) → ((at : Instance) (t : List Instance) → IsWellNamed at → GrownComplete at.path t (g at t)) → Grows g
 grows_from g f at t w some = let r = f at t w in record { new = r.new; is = r.is; well = r.well; differ = r.differ; paths = r.under some }
 
-pub whole_grown : (ms : List PlainModule) → AllByRecursion HasIdentifiers ms → (n : ℕ) (at : Instance) (t : List Instance) → IsWellNamed at → GrownWhole at.path t (grow n ms at t)
+pub whole_grown : (ms : List PlainModule) → AllByRecursion HasIdentifiers ms → (n : ℕ) (at : Instance) (t : List Instance) → IsWellNamed at → GrownComplete at.path t (grow n ms at t)
 unfolding grow
 whole_grown ms h zero at t w = record { new = []; is = sym (append-nil t); well = tt; differ = λ d. tt; under = λ n. tt }
 whole_grown ms h (suc n) at t w =

@@ -15,11 +15,11 @@ use Rattle.smv_meaning.specs.Names.{parent_of, path_in}
 use Rattle.smv_meaning.specs.Phases.{Declared, element_declares, declared_in, IsAccepted, over_instances}
 use Rattle.smv_items.specs.FlatItems.{Content, Origin, with_content, actual_content, actual_items, domain_content, variable_item, definition_item, element_items, items_here, path_of, element_symbols}
 use Rattle.smv_accepted.specs.Names.{IsIdentifier, IsDottedName}
-use Rattle.smv_accepted.specs.NameLaws.{item_names, NamesDiffer, NamesStandOnce, NamesAreWords, SymbolsAreWords}
+use Rattle.smv_accepted.specs.NameLaws.{item_names, NamesDiffer, NamesAreDistinct, NamesAreWords, SymbolsAreWords}
 use Rattle.smv_accepted.proofs.Lists.{all_weaker, differ_joined, differ_mapped, Within, none_left, kept, passed, within_joined, none_within, all_within, differ_within}
 use Rattle.smv_accepted.proofs.Dotted.{identifier_dotless, dotted_once, dotted_named}
 use Rattle.smv_accepted.proofs.Spelled.{tokens_named, modules_identifiers}
-use Rattle.smv_accepted.proofs.Symbols.{gathered_all, stands_once}
+use Rattle.smv_accepted.proofs.Symbols.{gathered_all, occurs_once}
 use Rattle.smv_accepted.proofs.Grown.{IsWellNamed, name_of, declared_names, DiffersInside, path_at, are_instances}
 use Rattle.smv_accepted.proofs.Declared.{accepted_differ}
 use Rattle.name_maps.proofs.FreshNames.{AllDiffer, Lacks, all_fresh, all_joined, all_mapped}
@@ -85,7 +85,7 @@ here_within i at =
     (sym (map-append name_of (map parameter_declared at.module.parameters) (flat_map element_declares at.module.elements)))
     (within_joined (actuals_within i (parent_of at) at.module.parameters at.actuals) (elements_within i at.module.elements))
 
--- ---- items stand in their instances
+-- ---- items are in their instances
 
 abbrev IsIn : ℕ → Origin → Type 0
 IsIn i m = m.instance ≡ i
@@ -225,5 +225,5 @@ names_all_differ source end text xs l s needed h =
 pub names_differ_law : NamesDiffer
 names_differ_law source end text xs l s needed h = all_fresh (item_names (instances_of source)) (names_all_differ source end text xs l s needed h)
 
-pub names_stand_once_law : NamesStandOnce
-names_stand_once_law source end text xs l s needed h k x e = stands_once (item_names (instances_of source)) k x (names_all_differ source end text xs l s needed h) e
+pub names_are_distinct_law : NamesAreDistinct
+names_are_distinct_law source end text xs l s needed h k x e = occurs_once (item_names (instances_of source)) k x (names_all_differ source end text xs l s needed h) e

@@ -9,7 +9,7 @@ use Rattle.std.proofs.lemmas.Slice.Eq.{bytes_eq-Decides}
 use Rattle.name_maps.specs.Names.{place_of}
 use Rattle.smv_meaning.specs.Instances.{Instance, is_one_of}
 use Rattle.smv_items.specs.FlatItems.{element_symbols, gathered, symbols_of}
-use Rattle.smv_accepted.specs.NameLaws.{SymbolsDiffer, SymbolsStandOnce}
+use Rattle.smv_accepted.specs.NameLaws.{SymbolsDiffer, SymbolsAreDistinct}
 use Rattle.smv_accepted.proofs.Lists.{differ_joined, apart_told}
 use Rattle.name_maps.proofs.FreshNames.{AllDiffer, Lacks, all_fresh, all_joined, tells_apart}
 
@@ -64,10 +64,10 @@ first_is (x ∷ xs) (suc i) s h e =
     ap (λ b. cond (not b) (1 + position_or_len (bytes_eq s) xs) 0) (tells_apart s x (lacks_there xs x i s h.0 e))
     ∙ (let r = first_is xs i s h.1 e in omega (arith, r))
 
-pub stands_once : (xs : List (List ℕ)) (i : ℕ) (s : List ℕ) → AllDiffer xs → slice_get xs i ≡ Some s → place_of xs s ≡ Some i
-stands_once xs i s h e =
+pub occurs_once : (xs : List (List ℕ)) (i : ℕ) (s : List ℕ) → AllDiffer xs → slice_get xs i ≡ Some s → place_of xs s ≡ Some i
+occurs_once xs i s h e =
     let r = first_is xs i s h e in
     ap (λ n. cond (nat_lt n (length xs)) (Some n) None) r ∙ ap (λ b. cond b (Some i) None) (lt-ltb i (length xs) (slice_get_within xs i s e))
 
-pub symbols_stand_once_law : SymbolsStandOnce
-symbols_stand_once_law t i s h = stands_once (symbols_of t) i s (symbols_apart t) h
+pub symbols_are_distinct_law : SymbolsAreDistinct
+symbols_are_distinct_law t i s h = occurs_once (symbols_of t) i s (symbols_apart t) h

@@ -21,8 +21,8 @@ NamesDiffer = (source : PlainSource) (end : Place) (text : List ℕ) (xs : List 
     → (needed : ℕ) → IsAccepted source needed → are_fresh [] (item_names (instances_of source)) ≡ true
 
 -- the place of an item's dotted name is the item's number
-abbrev pub NamesStandOnce : Type 0
-NamesStandOnce = (source : PlainSource) (end : Place) (text : List ℕ) (xs : List Token) → Lexes text xs → SpellsSource source end xs
+abbrev pub NamesAreDistinct : Type 0
+NamesAreDistinct = (source : PlainSource) (end : Place) (text : List ℕ) (xs : List Token) → Lexes text xs → SpellsSource source end xs
     → (needed : ℕ) → IsAccepted source needed
     → (k : ℕ) (x : List ℕ) → slice_get (item_names (instances_of source)) k ≡ Some x → place_of (item_names (instances_of source)) x ≡ Some k
 
@@ -38,5 +38,5 @@ abbrev pub SymbolsDiffer : Type 0
 SymbolsDiffer = (t : List Instance) → are_fresh [] (symbols_of t) ≡ true
 
 -- the place of a symbol is the only one at which it stands
-abbrev pub SymbolsStandOnce : Type 0
-SymbolsStandOnce = (t : List Instance) (i : ℕ) (s : List ℕ) → slice_get (symbols_of t) i ≡ Some s → place_of (symbols_of t) s ≡ Some i
+abbrev pub SymbolsAreDistinct : Type 0
+SymbolsAreDistinct = (t : List Instance) (i : ℕ) (s : List ℕ) → slice_get (symbols_of t) i ≡ Some s → place_of (symbols_of t) s ≡ Some i

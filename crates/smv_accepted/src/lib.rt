@@ -9,8 +9,8 @@ mod width_laws;
 mod word_laws;
 
 pub use name_laws::{
-    names_are_words, names_differ, names_stand_once, symbols_are_words, symbols_differ,
-    symbols_stand_once,
+    names_are_distinct, names_are_words, names_differ, symbols_are_distinct, symbols_are_words,
+    symbols_differ,
 };
 pub use width_laws::width_is_small;
 pub use word_laws::words_fit;

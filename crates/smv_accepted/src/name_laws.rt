@@ -1,5 +1,5 @@
 // Laws of the names of items and symbols. These functions do nothing.
-ghost use Rattle.smv_accepted.specs.NameLaws.{NamesAreWords, NamesDiffer, NamesStandOnce, SymbolsAreWords, SymbolsDiffer, SymbolsStandOnce};
+ghost use Rattle.smv_accepted.specs.NameLaws.{NamesAreWords, NamesDiffer, NamesAreDistinct, SymbolsAreWords, SymbolsDiffer, SymbolsAreDistinct};
 
 /// Proves that the dotted names of the items of an accepted model are distinct.
 pub fn names_differ()
@@ -7,8 +7,8 @@ pub fn names_differ()
 {}
 
 /// Proves that each dotted name occurs once, at the number of its item.
-pub fn names_stand_once()
-    ensures { NamesStandOnce }
+pub fn names_are_distinct()
+    ensures { NamesAreDistinct }
 {}
 
 /// Proves that each dotted name is one or more identifiers with dots between them.
@@ -27,6 +27,6 @@ pub fn symbols_differ()
 {}
 
 /// Proves that each symbol occurs once.
-pub fn symbols_stand_once()
-    ensures { SymbolsStandOnce }
+pub fn symbols_are_distinct()
+    ensures { SymbolsAreDistinct }
 {}

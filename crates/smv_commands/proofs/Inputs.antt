@@ -1,4 +1,4 @@
--- Whether a model has inputs is told by what its instances declare.
+-- Whether a model has inputs is exposed by what its instances declare.
 use Rattle.std.proofs.Common.{◌≡◌, ◌∷◌, [], ◌+◌, ◌||◌, ℕ, Bool, false, List, map, flat_map, refl, ap, ◌∙◌}
 use Rattle.std.specs.List.{list_any}
 use Rattle.std.proofs.lemmas.List.Folds.{list_any-append}

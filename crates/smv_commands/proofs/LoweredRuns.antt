@@ -27,7 +27,7 @@ use Rattle.btor_witness.specs.Texts.{SpellsWitness}
 use Rattle.moxi_flat.specs.FlatSystem.{flat_of}
 use Rattle.moxi_layout.specs.LayoutLaws.{IsLaidOut}
 use Rattle.moxi_lines.specs.Lines.{lines_of}
-use Rattle.trace_lower.specs.Laws.{IsAcceptedBy, LoweredAreAccepted, LoweredComeBack, declared_by}
+use Rattle.trace_lower.specs.Laws.{IsAcceptedBy, LoweredAreAccepted, LoweredRoundTrip, declared_by}
 use Rattle.trace_lower.specs.declared.lower.LowerEnd.{LowerEnd}
 use Rattle.trace_lower.specs.declared.lower.LowerEnd.TheVariants as lower_end
 use Rattle.trace_lower.specs.Ends.{IsLowerEnd}
@@ -40,7 +40,7 @@ use Rattle.command_core.specs.declared.answer.Answer.TheVariants as answer
 use Rattle.command_core.specs.declared.answer.Output.TheVariants.{Text}
 use Rattle.command_core.specs.declared.status.Status.TheVariants as status
 use Rattle.command_core.specs.Answers.{status_of, text_of}
-use Rattle.command_core.specs.Reading.{GoesOn, within_limit}
+use Rattle.command_core.specs.Reading.{ContinuesWith, within_limit}
 use Rattle.command_core.specs.laws.Files.{done_from, on_read}
 use Rattle.smv_commands.specs.Limits.{most_smv_bytes, most_trace_bytes}
 use Rattle.smv_commands.specs.Lowering.{IsLoweredTrace, IsLowering, RunsAreLowered, StatesRun, lowered_answer, lowered_text}
@@ -88,9 +88,9 @@ said_lowered f j run w lines text exact judged same made = (
       ∙ sym (ap (lowered_answer source j run) (judged source form)),
 )
 
-pub said_denied : (f : FlatModel) (j : ℕ) (run : Run) {s step : ℕ} {k clause : Clause} (end : LowerEnd) → OfForms f (λ source. IsLowerEnd source j run end) → end ≡ lower_end.No step clause → s ≡ step → k ≡ clause
+pub said_rejected : (f : FlatModel) (j : ℕ) (run : Run) {s step : ℕ} {k clause : Clause} (end : LowerEnd) → OfForms f (λ source. IsLowerEnd source j run end) → end ≡ lower_end.No step clause → s ≡ step → k ≡ clause
     → IsRunAnswer lowered_answer f j run (answer.No s k)
-said_denied f j run {s} {step} {k} {clause} end judged is same_step same_clause = (
+said_rejected f j run {s} {step} {k} {clause} end judged is same_step same_clause = (
   tt,
   λ source form.
       ap (λ n. answer.No n k) same_step ∙ ap (λ c. answer.No step c) same_clause
@@ -102,7 +102,7 @@ said_denied f j run {s} {step} {k} {clause} end judged is same_step same_clause 
 abbrev PrintedIsRead : Type 0
 PrintedIsRead = (lines : List Line) (w : Witness) → IsWellFormed lines → IsWitness (sizes_of lines) w → IsWithinLimits lines w → SpellsWitness lines (printed lines w) (rising_witness (sizes_of lines) w)
 
-pub states_run : LoweredAreAccepted → LoweredComeBack → PrintedIsRead → (bytes : List ℕ) (j : ℕ) (source : PlainSource) (a : IsAcceptedModel bytes j source) → SpellsOnly (printed_lines (model_lines source)) (model_lines source) → IsLaidOut (model_system source) (model_lines source)
+pub states_run : LoweredAreAccepted → LoweredRoundTrip → PrintedIsRead → (bytes : List ℕ) (j : ℕ) (source : PlainSource) (a : IsAcceptedModel bytes j source) → SpellsOnly (printed_lines (model_lines source)) (model_lines source) → IsLaidOut (model_system source) (model_lines source)
     → (trace : List ℕ) (run : Run) → trace_of (declared_by source) trace ≡ Ok run → verdict_on source j run ≡ Yes → StatesRun source j run (lowered_text source j run)
 unfolding lowered_text
 states_run accepted back reads bytes j source a only laid trace run states judged =
@@ -133,12 +133,12 @@ done_trace source j (Ok run) b h s go = done_run source j run (verdict_on source
 done_trace source j (Err refusal) b h s go = let e : status.SecondRefused ≡ status.Done = sym (ap status_of h) ∙ s in absurd (cc)
 
 -- what is written for the second file is made of its bytes
-done_second : {S : Type 0} (second : List ℕ) (content : Option (List ℕ)) (next : List ℕ → Answer → Type 0) (b : Answer) → GoesOn (within_limit content second most_trace_bytes trace_too_long) next b → status_of b ≡ status.Done
+done_second : {S : Type 0} (second : List ℕ) (content : Option (List ℕ)) (next : List ℕ → Answer → Type 0) (b : Answer) → ContinuesWith (within_limit content second most_trace_bytes trace_too_long) next b → status_of b ≡ status.Done
     → ((text : List ℕ) → content ≡ Some text → next text b → S) → S
 done_second second None next b h s go = let e : status.ReadFault ≡ status.Done = sym (ap status_of h) ∙ s in absurd (cc)
 done_second {S} second (Some text) next b h s go = by_length (nat_lt most_trace_bytes (length text)) h
   where
-    by_length : (long : Bool) → GoesOn (cond long (Err trace_too_long) (Ok text)) next b → S
+    by_length : (long : Bool) → ContinuesWith (cond long (Err trace_too_long) (Ok text)) next b → S
     by_length true g = let e : status.SecondRefused ≡ status.Done = sym (ap status_of g) ∙ s in absurd (cc)
     by_length false g = go text refl g
 

@@ -32,7 +32,7 @@ use Rattle.command_core.specs.declared.answer.Stop.{Stop}
 use Rattle.command_core.specs.declared.status.Status.TheVariants as status
 use Rattle.command_core.specs.Answers.{status_of, text_of}
 use Rattle.command_core.specs.Giving.{MayGive}
-use Rattle.command_core.specs.Reading.{GoesOn, StopsWith, file_within}
+use Rattle.command_core.specs.Reading.{ContinuesWith, StopsWith, file_within}
 use Rattle.command_core.specs.laws.Files.{done_from, goes_once, on_read}
 use Rattle.command_core.specs.laws.Given.{also_ok, also_stop, of_each}
 use Rattle.btor_commands.specs.Judgement.{witness_too_long}
@@ -100,9 +100,9 @@ spelled_in law bytes f form =
 
 -- ---- what may be given
 
-module _ (files : Option Files) (rose : Type 0) (second bytes : List ℕ) (f : FlatModel) (law : ModelLinesAreSpelled) (form : IsFormIn bytes 0 f) where
+module _ (files : Option Files) (faulted : Type 0) (second bytes : List ℕ) (f : FlatModel) (law : ModelLinesAreSpelled) (form : IsFormIn bytes 0 f) where
   abbrev Read : Files → Answer → Type 0
-  Read fs a = GoesOn (file_within fs second most_witness_bytes witness_too_long) (OfText (lines_in f) (trace_in f)) a
+  Read fs a = ContinuesWith (file_within fs second most_witness_bytes witness_too_long) (OfText (lines_in f) (trace_in f)) a
 
   for_model : (fs : Files) (a : Answer) → Read fs a → OfBytes fs second bytes a
   for_model fs a h =
@@ -111,11 +111,11 @@ module _ (files : Option Files) (rose : Type 0) (second bytes : List ℕ) (f : F
       inl (source, form.accepted, of_text fs second source a (model_lines source, spelled_in law bytes f form, read))
 
   -- what may be given to the second file of a flat form may be given for its model's bytes
-  pub witness_given : {E : Type 0} (result : Result Answer E) → IfOk result (MayGive files (second ∷ []) Read rose) → IfOk result (MayGive files (second ∷ []) (λ fs. OfBytes fs second bytes) rose)
-  witness_given result h = also_ok files (second ∷ []) (second ∷ []) rose rose Read (λ fs. OfBytes fs second bytes) (λ name among. among) (λ r. r) (of_each files for_model) result h
+  pub witness_given : {E : Type 0} (result : Result Answer E) → IfOk result (MayGive files (second ∷ []) Read faulted) → IfOk result (MayGive files (second ∷ []) (λ fs. OfBytes fs second bytes) faulted)
+  witness_given result h = also_ok files (second ∷ []) (second ∷ []) faulted faulted Read (λ fs. OfBytes fs second bytes) (λ name among. among) (λ r. r) (of_each files for_model) result h
 
-  pub witness_stops : {T : Type 0} (result : Result T Stop) → IfErr result (StopsWith (MayGive files (second ∷ []) Read rose)) → IfErr result (StopsWith (MayGive files (second ∷ []) (λ fs. OfBytes fs second bytes) rose))
-  witness_stops result h = also_stop files (second ∷ []) (second ∷ []) rose rose Read (λ fs. OfBytes fs second bytes) (λ name among. among) (λ r. r) (of_each files for_model) result h
+  pub witness_stops : {T : Type 0} (result : Result T Stop) → IfErr result (StopsWith (MayGive files (second ∷ []) Read faulted)) → IfErr result (StopsWith (MayGive files (second ∷ []) (λ fs. OfBytes fs second bytes) faulted))
+  witness_stops result h = also_stop files (second ∷ []) (second ∷ []) faulted faulted Read (λ fs. OfBytes fs second bytes) (λ name among. among) (λ r. r) (of_each files for_model) result h
 
 -- the refusal of a model may be given
 pub refusal_given : (files : Option Files) (second bytes : List ℕ) (refusal : Refusal) → IsCheckRefusal bytes 0 refusal → IfSome files (λ fs. OfBytes fs second bytes (answer.Refused refusal))

@@ -19,7 +19,7 @@ use Rattle.command_core.specs.declared.answer.Answer.TheVariants as answer
 use Rattle.command_core.specs.declared.answer.Output.TheVariants.{Broken}
 use Rattle.command_core.specs.declared.answer.Stop.{Stop}
 use Rattle.command_core.specs.Giving.{MayGive}
-use Rattle.command_core.specs.Reading.{GoesOn, StopsWith, file_within}
+use Rattle.command_core.specs.Reading.{ContinuesWith, StopsWith, file_within}
 use Rattle.command_core.specs.laws.Files.{goes_once}
 use Rattle.command_core.specs.laws.Given.{also_ok, also_stop, of_each}
 use Rattle.smv_commands.specs.Limits.{most_smv_bytes, most_trace_bytes}
@@ -50,7 +50,7 @@ has_flat f h = (h.0, flat_form h.0 f h.1)
 -- ---- the second file
 
 -- an answer to a file's bytes is also the other one
-pub goes_also : (step : Result (List ℕ) Answer) (next other : List ℕ → Answer → Type 0) → ((bytes : List ℕ) (a : Answer) → next bytes a → other bytes a) → (a : Answer) → GoesOn step next a → GoesOn step other a
+pub goes_also : (step : Result (List ℕ) Answer) (next other : List ℕ → Answer → Type 0) → ((bytes : List ℕ) (a : Answer) → next bytes a → other bytes a) → (a : Answer) → ContinuesWith step next a → ContinuesWith step other a
 goes_also (Ok bytes) next other so a h = so bytes a h
 goes_also (Err instead) next other so a h = h
 
@@ -89,20 +89,20 @@ module _ (answer_to : PlainSource → ℕ → Run → Verdict → Answer) where
 
   -- ---- what may be given
 
-  module _ (files : Option Files) (rose : Type 0) (second bytes : List ℕ) (j : ℕ) (f : FlatModel) (form : IsFormIn bytes j f) where
+  module _ (files : Option Files) (faulted : Type 0) (second bytes : List ℕ) (j : ℕ) (f : FlatModel) (form : IsFormIn bytes j f) where
     abbrev Read : Files → Answer → Type 0
-    Read fs a = GoesOn (file_within fs second most_trace_bytes trace_too_long) (OfForm answer_to f j) a
+    Read fs a = ContinuesWith (file_within fs second most_trace_bytes trace_too_long) (OfForm answer_to f j) a
 
     for_model : (fs : Files) (a : Answer) → Read fs a → OfBytes answer_to fs second j bytes a
     for_model fs a h =
         inl (form.source, form.accepted, goes_also (file_within fs second most_trace_bytes trace_too_long) (OfForm answer_to f j) (OfText answer_to form.source j) (λ text b g. g.1 form.source form.form) a h)
 
     -- what may be given to the second file of a flat form may be given for its model's bytes
-    pub trace_given : {E : Type 0} (result : Result Answer E) → IfOk result (MayGive files (second ∷ []) Read rose) → IfOk result (MayGive files (second ∷ []) (λ fs. OfBytes answer_to fs second j bytes) rose)
-    trace_given result h = also_ok files (second ∷ []) (second ∷ []) rose rose Read (λ fs. OfBytes answer_to fs second j bytes) (λ name among. among) (λ r. r) (of_each files for_model) result h
+    pub trace_given : {E : Type 0} (result : Result Answer E) → IfOk result (MayGive files (second ∷ []) Read faulted) → IfOk result (MayGive files (second ∷ []) (λ fs. OfBytes answer_to fs second j bytes) faulted)
+    trace_given result h = also_ok files (second ∷ []) (second ∷ []) faulted faulted Read (λ fs. OfBytes answer_to fs second j bytes) (λ name among. among) (λ r. r) (of_each files for_model) result h
 
-    pub trace_stops : {T : Type 0} (result : Result T Stop) → IfErr result (StopsWith (MayGive files (second ∷ []) Read rose)) → IfErr result (StopsWith (MayGive files (second ∷ []) (λ fs. OfBytes answer_to fs second j bytes) rose))
-    trace_stops result h = also_stop files (second ∷ []) (second ∷ []) rose rose Read (λ fs. OfBytes answer_to fs second j bytes) (λ name among. among) (λ r. r) (of_each files for_model) result h
+    pub trace_stops : {T : Type 0} (result : Result T Stop) → IfErr result (StopsWith (MayGive files (second ∷ []) Read faulted)) → IfErr result (StopsWith (MayGive files (second ∷ []) (λ fs. OfBytes answer_to fs second j bytes) faulted))
+    trace_stops result h = also_stop files (second ∷ []) (second ∷ []) faulted faulted Read (λ fs. OfBytes answer_to fs second j bytes) (λ name among. among) (λ r. r) (of_each files for_model) result h
 
   -- the refusal of a model may be given
   pub refusal_given : (files : Option Files) (second bytes : List ℕ) (j : ℕ) (refusal : Refusal) → IsCheckRefusal bytes j refusal → IfSome files (λ fs. OfBytes answer_to fs second j bytes (answer.Refused refusal))

@@ -9,7 +9,7 @@ use Rattle.moxi_script_print.specs.Printing.{shown_script}
 use Rattle.command_core.specs.declared.answer.Answer.{Answer}
 use Rattle.btor_commands.specs.Traces.{HasTrace, SpellsText}
 use Rattle.smv_commands.specs.Limits.{most_smv_bytes}
-use Rattle.command_core.specs.Reading.{GoesOn, file_within}
+use Rattle.command_core.specs.Reading.{ContinuesWith, file_within}
 use Rattle.command_core.specs.Texts.{IsTextOr}
 use Rattle.smv_script_laws.specs.RunLaws.{HasRun, invariant_count}
 use Rattle.smv_commands.specs.Models.{IsAcceptedModel, IsCheckRefusal, smv_too_long}
@@ -28,7 +28,7 @@ OfBytes bytes answer = IsTextOr (IsScriptText bytes) (IsCheckRefusal bytes 0) an
 
 -- the answer for the file with this name: the script of its model, or its refusal
 abbrev pub IsScript : Files → List ℕ → Answer → Type 0
-IsScript files model answer = GoesOn (file_within files model most_smv_bytes smv_too_long) OfBytes answer
+IsScript files model answer = ContinuesWith (file_within files model most_smv_bytes smv_too_long) OfBytes answer
 
 -- ---- the properties of the script
 

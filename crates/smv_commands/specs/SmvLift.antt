@@ -23,7 +23,7 @@ use Rattle.moxi_lift.specs.Lifted.{lifted}
 use Rattle.witness_lift.specs.LineLaws.{model_system}
 use Rattle.witness_lift.specs.Lifting.{lifted_run as run_lifted_to}
 use Rattle.command_core.specs.declared.answer.Answer.{Answer}
-use Rattle.command_core.specs.Reading.{GoesOn, file_within}
+use Rattle.command_core.specs.Reading.{ContinuesWith, file_within}
 use Rattle.smv_commands.specs.Limits.{most_smv_bytes}
 use Rattle.smv_commands.specs.Models.{IsAcceptedModel, IsRefusal, smv_too_long}
 use Rattle.smv_commands.specs.Translation.{Accepts, btor_text}
@@ -69,7 +69,7 @@ OfBytes files second bytes answer =
 
 -- the answer for the witness in the second file and the model in the first
 abbrev pub IsSmvLift : Files → List ℕ → List ℕ → Answer → Type 0
-IsSmvLift files model second answer = GoesOn (file_within files model most_smv_bytes smv_too_long) (OfBytes files second) answer
+IsSmvLift files model second answer = ContinuesWith (file_within files model most_smv_bytes smv_too_long) (OfBytes files second) answer
 
 -- ---- the trace by a flat form
 

@@ -14,7 +14,7 @@ use Rattle.trace_lower.specs.Laws.{declared_by}
 use Rattle.trace_lower.specs.Lowered.{verdict_on}
 use Rattle.command_core.specs.declared.answer.Answer.{Answer}
 use Rattle.command_core.specs.declared.answer.Answer.TheVariants.{SecondRefused}
-use Rattle.command_core.specs.Reading.{GoesOn, SaysRead, file_within}
+use Rattle.command_core.specs.Reading.{ContinuesWith, SaysRead, file_within}
 use Rattle.smv_commands.specs.Limits.{most_smv_bytes, most_trace_bytes}
 use Rattle.smv_commands.specs.Models.{IsAcceptedModel, IsRefusal, smv_too_long}
 
@@ -33,7 +33,7 @@ module _ (answer_to : PlainSource → ℕ → Run → Verdict → Answer) where
 
   -- the answer for the trace in the second file, for the model
   abbrev pub OfModel : Files → List ℕ → ℕ → PlainSource → Answer → Type 0
-  OfModel files second j source answer = GoesOn (file_within files second most_trace_bytes trace_too_long) (OfText source j) answer
+  OfModel files second j source answer = ContinuesWith (file_within files second most_trace_bytes trace_too_long) (OfText source j) answer
 
   -- the answer for the trace in the second file, for the model that the bytes spell, or the refusal of the bytes
   abbrev pub OfBytes : Files → List ℕ → ℕ → List ℕ → Answer → Type 0
@@ -41,7 +41,7 @@ module _ (answer_to : PlainSource → ℕ → Run → Verdict → Answer) where
 
   -- the answer for the trace in the second file, for the model in the first
   abbrev pub IsAnswerToTrace : Files → List ℕ → List ℕ → ℕ → Answer → Type 0
-  IsAnswerToTrace files model second j answer = GoesOn (file_within files model most_smv_bytes smv_too_long) (OfBytes files second j) answer
+  IsAnswerToTrace files model second j answer = ContinuesWith (file_within files model most_smv_bytes smv_too_long) (OfBytes files second j) answer
 
   -- This is answered to a trace for each model of which this is the flat form. It says that the trace was read.
   abbrev pub OfForm : FlatModel → ℕ → List ℕ → Answer → Type 0

@@ -5,10 +5,10 @@ use Rattle.smv_text.specs.Tree.{PlainSource}
 use Rattle.smv_meaning.specs.Instances.{weight_of}
 use Rattle.btor_tree.specs.declared.lines.Line.{Line}
 use Rattle.btor_tree.specs.Printing.{printed}
-use Rattle.btor_tree.specs.Sharing.{HasNoTwoAlike}
+use Rattle.btor_tree.specs.Sharing.{HasNoDuplicates}
 use Rattle.btor_tree.specs.Texts.{SpellsLines}
 use Rattle.command_core.specs.declared.answer.Answer.{Answer}
-use Rattle.command_core.specs.Reading.{GoesOn, file_within}
+use Rattle.command_core.specs.Reading.{ContinuesWith, file_within}
 use Rattle.command_core.specs.Texts.{IsTextOr}
 use Rattle.smv_commands.specs.Limits.{most_smv_bytes}
 use Rattle.smv_commands.specs.Models.{IsAcceptedModel, IsCheckRefusal, smv_too_long}
@@ -32,7 +32,7 @@ OfBytes bytes answer = IsTextOr (IsBtorText bytes) (IsCheckRefusal bytes 0) answ
 
 -- the answer for the file with this name: the BTOR2 text of its model, or its refusal
 abbrev pub IsTranslation : Files → List ℕ → Answer → Type 0
-IsTranslation files model answer = GoesOn (file_within files model most_smv_bytes smv_too_long) OfBytes answer
+IsTranslation files model answer = ContinuesWith (file_within files model most_smv_bytes smv_too_long) OfBytes answer
 
 -- ---- the properties of the text
 
@@ -44,7 +44,7 @@ pub record TranslatesTo (source : PlainSource) (text : List ℕ) : Type 0 where
   pub only : (others : List Line) → SpellsLines text others → others ≡ lines
   pub translates : Translates source lines
   pub few : length lines ≤ 16 * weight_of source + 200
-  pub distinct : HasNoTwoAlike lines
+  pub distinct : HasNoDuplicates lines
 
 -- the text written for each accepted model is correct
 abbrev pub TranslationsAreCorrect : Type 0

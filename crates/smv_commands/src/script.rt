@@ -1,6 +1,6 @@
 // From an SMV model to its MoXI script.
 ghost use Rattle.std.specs.Prelude.{◌≡◌, ◌≤◌, [], ◌∷◌, length, IfOk, IfErr, IsErrAnd};
-ghost use Rattle.text_core.specs.Outside.{Rose};
+ghost use Rattle.text_core.specs.Outside.{HasNewFault};
 ghost use Rattle.command_core.specs.Giving.{MayGive};
 ghost use Rattle.command_core.specs.Keeping.{KeepsShelf};
 ghost use Rattle.command_core.specs.laws.Texts.{text_says};
@@ -15,12 +15,12 @@ ghost use Rattle.smv_commands.specs.Scripts.{IsScript, IsScriptText, OfBytes, Sc
 
 use crate::models::{SMV_LIMIT, flat_in};
 use command_core::{Answer, LastFile, Stop, answer_file, refusal, text_answer};
-use moxi_script_print::{print_script, printed_scripts_are_spelled, whole_scripts_can_be_shown};
+use moxi_script_print::{print_script, printed_scripts_are_spelled, valid_scripts_can_be_shown};
 use moxi_scripts::one_script;
 use moxi_sexpr::readings_are_one;
 use moxi_term_print::shown_is_read_back;
 use smv_flatten::Flat;
-use smv_script_laws::{brackets_are_few, names_are_spellable, runs_are_traces, scripts_are_whole};
+use smv_script_laws::{brackets_are_few, names_are_spellable, runs_are_traces, scripts_are_valid};
 use smv_to_moxi::to_moxi;
 use std::alloc::Global;
 use text_core::kinds::smv;
@@ -59,8 +59,8 @@ impl LastFile for SmvToMoxi {
 
 /// Reads an SMV model, and returns its MoXI script.
 pub fn smv_to_moxi<F: Shelf>(alloc: Global, model: &Name, shelf: &mut F) -> Result<Answer, Stop>
-    ensures answer { IfOk result (MayGive (F.files shelf.old) (model.now ∷ []) (λ files. IsScript files model.now) (Rose (F.faults shelf.old) (F.faults shelf.new))) }
-    ensures stop { IfErr result (StopsWith (MayGive (F.files shelf.old) (model.now ∷ []) (λ files. IsScript files model.now) (Rose (F.faults shelf.old) (F.faults shelf.new)))) }
+    ensures answer { IfOk result (MayGive (F.files shelf.old) (model.now ∷ []) (λ files. IsScript files model.now) (HasNewFault (F.faults shelf.old) (F.faults shelf.new))) }
+    ensures stop { IfErr result (StopsWith (MayGive (F.files shelf.old) (model.now ∷ []) (λ files. IsScript files model.now) (HasNewFault (F.faults shelf.old) (F.faults shelf.new)))) }
     ensures shelf { KeepsShelf (F.files shelf.old) (F.files shelf.new) (F.faults shelf.old) (F.faults shelf.new) (F.begun shelf.old) (F.begun shelf.new) (model.now ∷ []) (IsErrAnd result StopsUnread) }
 {
     answer_file(alloc, model, &SmvToMoxi, shelf)
@@ -91,10 +91,10 @@ fn text_of(alloc: Global, flat: &Flat) -> Result<Text, NoMemory>
 pub fn scripts_are_correct()
     ensures { ScriptsAreCorrect }
 {
-    scripts_are_whole();
+    scripts_are_valid();
     names_are_spellable();
     brackets_are_few();
-    whole_scripts_can_be_shown();
+    valid_scripts_can_be_shown();
     shown_is_read_back();
     printed_scripts_are_spelled();
     readings_are_one();

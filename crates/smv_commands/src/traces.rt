@@ -1,6 +1,6 @@
 // The trace of an SMV model to which a witness of its BTOR2 text is lifted.
 ghost use Rattle.std.specs.Prelude.{◌≡◌, [], ◌∷◌, IfOk, IfErr, IsErrAnd};
-ghost use Rattle.text_core.specs.Outside.{Rose};
+ghost use Rattle.text_core.specs.Outside.{HasNewFault};
 ghost use Rattle.btor_witness.specs.Printing.{IsWitness};
 ghost use Rattle.btor_witness.specs.Sizes.{sizes_of};
 ghost use Rattle.witness_lift.specs.Lifting.{lines_in};
@@ -64,7 +64,7 @@ impl<'a> LastFile for LiftWitness<'a> {
 }
 
 // The trace to which a witness of the chain's model is lifted, or the judge's verdict No on it.
-#[tactic(auto, using(btor_commands::specs::laws::Lifts::denied), unfolding(crate::specs::SmvLift::run_text))]
+#[tactic(auto, using(btor_commands::specs::laws::Lifts::rejected), unfolding(crate::specs::SmvLift::run_text))]
 fn lifted_answer(alloc: Global, chain: &SmvChain, witness: &Witness) -> Result<Answer, Stop>
     requires { IsWitness (sizes_of (lines_in chain.now)) witness.now }
     ensures answer { IfOk result (IsLift (lines_in chain.now) (trace_in chain.now) witness.now) }
@@ -125,8 +125,8 @@ pub fn lift_smv_files<F: Shelf>(
     second: &Name,
     shelf: &mut F,
 ) -> Result<Answer, Stop>
-    ensures answer { IfOk result (MayGive (F.files shelf.old) (model.now ∷ second.now ∷ []) (λ files. IsSmvLift files model.now second.now) (Rose (F.faults shelf.old) (F.faults shelf.new))) }
-    ensures stop { IfErr result (StopsWith (MayGive (F.files shelf.old) (model.now ∷ second.now ∷ []) (λ files. IsSmvLift files model.now second.now) (Rose (F.faults shelf.old) (F.faults shelf.new)))) }
+    ensures answer { IfOk result (MayGive (F.files shelf.old) (model.now ∷ second.now ∷ []) (λ files. IsSmvLift files model.now second.now) (HasNewFault (F.faults shelf.old) (F.faults shelf.new))) }
+    ensures stop { IfErr result (StopsWith (MayGive (F.files shelf.old) (model.now ∷ second.now ∷ []) (λ files. IsSmvLift files model.now second.now) (HasNewFault (F.faults shelf.old) (F.faults shelf.new)))) }
     ensures shelf { KeepsShelf (F.files shelf.old) (F.files shelf.new) (F.faults shelf.old) (F.faults shelf.new) (F.begun shelf.old) (F.begun shelf.new) (model.now ∷ second.now ∷ []) (IsErrAnd result StopsUnread) }
 {
     answer_files(alloc, model, second, &LiftSmv, shelf)

@@ -32,7 +32,7 @@ abbrev pub KeptUpto : {S : Type 0} → List PartOf → List ℕ → HashMap (ℕ
 KeptUpto ts order marks row label n = (k : ℕ) (x : List ℕ) (j : ℕ) (e : Tree) → order_rank (map instance_plain ts) order (key k x) ≤ n → is_marked marks k x ≡ true
     → local (map instance_plain ts) k x ≡ body_of j e → FoundIsCached ts row label (body_at k x j e)
 
--- what a path leads to is kept, where it stands before and is marked
+-- what a path leads to is kept, where it is before and is marked
 found_kept : {S : Type 0} (ts : List PartOf) (order : List ℕ) (marks : HashMap (ℕ × Bor (List ℕ)) Bool S) (row : Row) (label : Values) (n : ℕ) → KeptUpto ts order marks row label n
     → (m : Found) → Under (map instance_plain ts) (order_rank (map instance_plain ts) order) (n + 1) m
     → ((k : ℕ) (x : List ℕ) → is_body_of k x m ≡ true → is_marked marks k x ≡ true) → FoundIsCached ts row label m

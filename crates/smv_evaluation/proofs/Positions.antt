@@ -1,4 +1,4 @@
--- Where definitions and actuals stand in an order.
+-- Where definitions and actuals are in an order.
 use Rattle.std.proofs.Common.{◌≡◌, ℕ, zero, suc, ◌+◌, ◌-◌, ◌<◌, ◌≤◌, ◌==◌, Bool, true, false, ◌||◌, nat_lt, cond, List, [], ◌∷◌, ◌++◌, map, length, refl, sym, ap, ◌∙◌, subst, arith}
 use Rattle.std.specs.Prelude.{slice_index_or}
 use Rattle.std.specs.List.{list_all, list_any}
@@ -8,7 +8,7 @@ use mathlib.Core.Logic.{◌⊎◌, inl, inr, ⊎_elim}
 use Rattle.digraph.specs.Graph.{NodeLists, next_of, is_in, falls_from}
 use Rattle.smv_text.specs.declared.tree.Path.{Path}
 use Rattle.smv_text.specs.Tree.{Tree}
-use Rattle.smv_references.specs.declared.bodies.Body.{Body as KeptBody}
+use Rattle.smv_references.specs.declared.bodies.Body.{Body as StoredBody}
 use Rattle.smv_meaning.specs.Expressions.{paths_of}
 use Rattle.smv_meaning.specs.Instances.{Instance}
 use Rattle.smv_meaning.specs.Names.{body_of, local, found_in}
@@ -48,7 +48,7 @@ upto_within (k ∷ ks) m h =
       | inr e ↦ omega (arith, upto_there k m ks e, upto_within ks m (sym (ap (λ b. b || is_in ks m) e) ∙ h))
     ]
 
--- what stands at its own place
+-- what is at its own place
 pub upto_at : (ks : List ℕ) (m n : ℕ) → n < length ks → upto ks m ≡ n + 1 → slice_index_or ks n 0 ≡ m
 upto_at [] m n l h = absurd (omega (arith, l))
 upto_at (k ∷ ks) m zero l h =
@@ -76,7 +76,7 @@ any_push p (y ∷ ys) x h =
     either true b e = refl
     either false b e = e
 
--- what a node leads to stands before it
+-- what a node leads to is before it
 pub stands_before : (g : NodeLists) (seen ks : List ℕ) → falls_from g seen ks ≡ true → (n m : ℕ) → n < length ks → In m (next_of g (slice_index_or ks n 0)) → (is_in seen m ≡ true) ⊎ (upto ks m ≤ n)
 stands_before g seen [] f n m l i = absurd (omega (arith, l))
 stands_before g seen (k ∷ ks) f zero m l i =
@@ -94,7 +94,7 @@ stands_before g seen (k ∷ ks) f (suc n) m l i =
 abbrev pub order_rank : List Instance → List ℕ → Body → ℕ
 order_rank t order k = upto order (number t k)
 
--- what stands at a place
+-- what is at a place
 abbrev pub at_place : List Instance → List ℕ → ℕ → Body
 at_place t order n = slice_index_or (keys_of t) (slice_index_or order n 0) nobody
 
@@ -113,7 +113,7 @@ in_map f x [] h = absurd h
 in_map f x (y ∷ ys) (inl s) = inl (ap f s)
 in_map f x (y ∷ ys) (inr s) = inr (in_map f x ys s)
 
--- those to which it refers stand before
+-- those to which it refers are before
 pub refers_before : (t : List Instance) (order : List ℕ) → IsBodyOrder t order → (n : ℕ) → n < length order → (m : Body) → In m (refers t (at_place t order n)) → order_rank t order m ≤ n
 refers_before t order o n l m i =
     let a = slice_index_or order n 0 in
@@ -126,7 +126,7 @@ refers_before t order o n l m i =
 pub rank_low : (t : List Instance) (order : List ℕ) → IsBodyOrder t order → (k : Body) → In k (keys_of t) → order_rank t order k ≤ length order
 rank_low t order o k i = upto_within order (number t k) (o.sorted.whole (number t k) (omega (arith, place_within (keys_of t) k i, graph_length t)))
 
--- it stands at its place
+-- it is at its place
 pub rank_at : (t : List Instance) (order : List ℕ) (k : Body) → In k (keys_of t) → (n : ℕ) → n < length order → order_rank t order k ≡ n + 1 → at_place t order n ≡ k
 rank_at t order k i n l e = ap (λ a. slice_index_or (keys_of t) a nobody) (upto_at order (number t k) n l e) ∙ place_is (keys_of t) k i
 
@@ -144,7 +144,7 @@ order_falls t order o k m i =
 pub order_descent : (t : List Instance) (order : List ℕ) → IsBodyOrder t order → Descent t (order_rank t order)
 order_descent t order o = record { falls = order_falls t order o; settles = look_settles t (rank_of t) (ranking t o.acyclic) }
 
--- what the paths of its body lead to stands before
+-- what the paths of its body lead to is before
 pub body_before : (t : List Instance) (order : List ℕ) → IsBodyOrder t order → (n : ℕ) → n < length order → (i : ℕ) (x : List ℕ) → at_place t order n ≡ key i x
     → (j : ℕ) (e : Tree) → local t i x ≡ body_of j e → (q : Path) → In q (paths_of e []) → Under t (order_rank t order) (n + 1) (found_in t j q)
 body_before t order o n l i x at j e is q g =
@@ -153,7 +153,7 @@ body_before t order o n l i x at j e is q g =
 
 -- ---- as they are numbered in the code
 
-pub kept_low : (fs : List KeptBody) (t : List Instance) (order : List ℕ) → map body_plain fs ≡ placed_bodies t → IsBodyOrder t order → (n a : ℕ) → n < length order → a ≡ slice_index_or order n a → a < length fs
+pub kept_low : (fs : List StoredBody) (t : List Instance) (order : List ℕ) → map body_plain fs ≡ placed_bodies t → IsBodyOrder t order → (n a : ℕ) → n < length order → a ≡ slice_index_or order n a → a < length fs
 kept_low fs t order e o n a l is =
     let ks : map key_of fs ≡ keys_of t = keys_are fs t e ∙ bodies_are t in
     let same : a ≡ slice_index_or order n 0 = is ∙ get_or_default order n a 0 l in
@@ -161,7 +161,7 @@ kept_low fs t order e o n a l is =
     let count = length-map fs key_of in
     omega (arith, node_within t order o n l, same, many, count)
 
-pub kept_at : (fs : List KeptBody) (t : List Instance) (order : List ℕ) → map body_plain fs ≡ placed_bodies t → IsBodyOrder t order → (n a : ℕ) (f : KeptBody) → n < length order → a ≡ slice_index_or order n a
+pub kept_at : (fs : List StoredBody) (t : List Instance) (order : List ℕ) → map body_plain fs ≡ placed_bodies t → IsBodyOrder t order → (n a : ℕ) (f : StoredBody) → n < length order → a ≡ slice_index_or order n a
     → f ≡ slice_index_or fs a f → at_place t order n ≡ key_of f
 kept_at fs t order e o n a f l is at =
     let ks : map key_of fs ≡ keys_of t = keys_are fs t e ∙ bodies_are t in

@@ -33,7 +33,7 @@ written t (variable_of kind d) k x h = absurd_bool h
 written t inner k x h = absurd_bool h
 written t nothing k x h = absurd_bool h
 
--- what a body leads to stands before it
+-- what a body leads to is before it
 under_rank : (t : List Instance) (rank : Body → ℕ) (r k : ℕ) (x : List ℕ) (m : Found) → is_body_of k x m ≡ true → Under t rank r m → rank (key k x) < r
 under_rank t rank r k x (body_at l y j e) s u = subst (λ z. rank z < r) (same_is (l, y) (k, x) s) u.0
 under_rank t rank r k x (variable_at y kind d) s u = absurd_bool s

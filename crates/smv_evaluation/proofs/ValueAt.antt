@@ -24,7 +24,7 @@ use Rattle.smv_meaning.specs.Typed.{Gives}
 use Rattle.smv_instances.specs.View.{instance_plain}
 use Rattle.smv_evaluation.specs.View.{stated}
 use Rattle.smv_meaning.specs.Literals.{words_fit}
-use Rattle.smv_meaning.specs.Parts.{StandsIn}
+use Rattle.smv_meaning.specs.Parts.{OccursIn}
 use Rattle.smv_meaning.specs.Checked.{IsChecked, all_trees, reaches_an_input}
 use Rattle.smv_evaluation.specs.Rows.{AreGiven, row_reads, FoundIsCached, IsCached, is_marked, MarksStart, MarksLeast, LocalSafe, MarkedSafe, MarkedAreCached}
 use Rattle.smv_meaning.specs.Reached.{is_body_of}
@@ -42,7 +42,7 @@ States = Option (Bor (List Given))
 pub record Asked (t : List Instance) (i : ℕ) (e : Tree) (state : Valuation) (label following : States) : Type 0 where
   pub checked : IsChecked t
   pub words : all_trees words_fit t ≡ true
-  pub occurs : StandsIn t i e
+  pub occurs : OccursIn t i e
   pub reach : (is_some label || not (reaches_an_input t i e)) ≡ true
   pub now_fits : state_fits t state ≡ true
   pub label_fits : label_given t label ≡ true

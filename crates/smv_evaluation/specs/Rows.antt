@@ -85,7 +85,7 @@ MarksLeast t i e marks = (test : ℕ → List ℕ → Bool) → ((k : ℕ) (x : 
     → ((k : ℕ) (x : List ℕ) (l : ℕ) (y : List ℕ) → test k x ≡ true → local_leads_to t (local t k x) l y ≡ true → test l y ≡ true)
     → (k : ℕ) (x : List ℕ) → is_marked marks k x ≡ true → test k x ≡ true
 
--- all definitions and actuals, and an order in which each stands after those to which it refers
+-- all definitions and actuals, and an order in which each is after those to which it refers
 pub record IsOrdered (t : List Instance) (reach : Reach) : Type 0 where
   pub bodies : map body_plain reach.bodies.items ≡ placed_bodies t
   pub order : IsBodyOrder t reach.order

@@ -6,7 +6,7 @@ ghost use Rattle.smv_meaning.specs.Instances.{instances_of};
 ghost use Rattle.smv_meaning.specs.Meaning.{value_of};
 ghost use Rattle.smv_meaning.specs.Runs.{state_fits};
 ghost use Rattle.smv_meaning.specs.Owed.{instance_number, following_or, label_given, following_given};
-ghost use Rattle.smv_meaning.specs.Parts.{StandsIn};
+ghost use Rattle.smv_meaning.specs.Parts.{OccursIn};
 ghost use Rattle.smv_meaning.specs.Checked.{IsChecked, reaches_an_input};
 ghost use Rattle.smv_instances.specs.View.{instance_plain};
 ghost use Rattle.smv_evaluation.specs.View.{stated};
@@ -62,7 +62,7 @@ pub fn value_at<'a>(
     following: Option<&'a State>,
 ) -> Result<Value, NoMemory>
     requires checked { IsChecked (instances_of (plain_source source.now)) }
-    requires occurs { StandsIn (instances_of (plain_source source.now)) (instance_number (instances_of (plain_source source.now)) instance.now) (plain expr.now) }
+    requires occurs { OccursIn (instances_of (plain_source source.now)) (instance_number (instances_of (plain_source source.now)) instance.now) (plain expr.now) }
     requires labelled { IsTrue (is_some label || not (reaches_an_input (instances_of (plain_source source.now)) (instance_number (instances_of (plain_source source.now)) instance.now) (plain expr.now))) }
     requires now_given { IsTrue (state_fits (instances_of (plain_source source.now)) (given now.now)) }
     requires label_given { IsTrue (label_given (instances_of (plain_source source.now)) label) }

@@ -13,17 +13,17 @@ use Rattle.smv_text.specs.declared.tree.Shape.{True, False, Number, Literal, Nam
 use Rattle.smv_text.specs.Tree.{Tree, truth, number, literal, name, range, chain, choice, cases, call, set, links_of, branches_of, trees_of}
 use Rattle.smv_text.specs.Heights.{height, highest, chain_height, link_heights}
 use Rattle.smv_text.specs.View.{plain, plain_link, plain_branch}
-use Rattle.smv_expressions.specs.declared.kept.Kept.{Kept}
+use Rattle.smv_expressions.specs.declared.kept.MeasuredExpr.{MeasuredExpr}
 use Rattle.smv_grammar.specs.declared.listing.Listing.TheVariants.{Arguments, Elements}
-use Rattle.smv_grammar.specs.Kept.{cap, capped, keep_at}
+use Rattle.smv_grammar.specs.MeasuredExpr.{cap, capped, keep_at}
 use Rattle.smv_grammar.specs.Machine.{whole, choice_at, listed}
 use Rattle.smv_expressions.specs.Gathered.{read_of, shaped, low, low_link, low_branch, highest_branch}
 use Rattle.smv_expressions.proofs.Capping.{cap_height, keeps, chain-within, low_is, low_links, low_branches, low_trees, heights-map, branches_height-highest}
 
-pub read_low : (x : Kept) (t : Tree) → read_of x ≡ cap t → plain x.expr ≡ low t
+pub read_low : (x : MeasuredExpr) (t : Tree) → read_of x ≡ cap t → plain x.expr ≡ low t
 read_low x t e = ap (λ r. r.tree) e
 
-pub read_height : (x : Kept) (t : Tree) → read_of x ≡ cap t → x.height ≡ capped (height t)
+pub read_height : (x : MeasuredExpr) (t : Tree) → read_of x ≡ cap t → x.height ≡ capped (height t)
 read_height x t e = ap (λ r. r.height) e ∙ cap_height t
 
 plain-Chain : (p : Place) (e : Box Expr Global) (ls : Vec Link Global) → shaped p (Chain e ls) ≡ chain p (plain e.value) (links_of (map plain_link ls.items))
@@ -48,22 +48,22 @@ plain_branch-at : (w v : Expr) → plain_branch (roll-Branch (record { when = w;
 plain_branch-at w v = search (rules, the_lemmas)
 
 -- leaves
-pub leaf_number : (x : Kept) (p : Place) (n : ℕ) → read_of x ≡ record { tree = shaped p (Number n); height = 1 } → read_of x ≡ cap (number p n)
+pub leaf_number : (x : MeasuredExpr) (p : Place) (n : ℕ) → read_of x ≡ record { tree = shaped p (Number n); height = 1 } → read_of x ≡ cap (number p n)
 leaf_number x p n e = e ∙ ap (λ t. record { tree = t; height = 1 }) (let same : shaped p (Number n) ≡ number p n = search (rules, the_lemmas) in same)
 
-pub leaf_literal : (x : Kept) (p : Place) (w : BitVector) → read_of x ≡ record { tree = shaped p (Literal w); height = 1 } → read_of x ≡ cap (literal p w)
+pub leaf_literal : (x : MeasuredExpr) (p : Place) (w : BitVector) → read_of x ≡ record { tree = shaped p (Literal w); height = 1 } → read_of x ≡ cap (literal p w)
 leaf_literal x p w e = e ∙ ap (λ t. record { tree = t; height = 1 }) (let same : shaped p (Literal w) ≡ literal p w = search (rules, the_lemmas) in same)
 
-pub leaf_true : (x : Kept) (p : Place) → read_of x ≡ record { tree = shaped p True; height = 1 } → read_of x ≡ cap (truth p true)
+pub leaf_true : (x : MeasuredExpr) (p : Place) → read_of x ≡ record { tree = shaped p True; height = 1 } → read_of x ≡ cap (truth p true)
 leaf_true x p e = e ∙ ap (λ t. record { tree = t; height = 1 }) (let same : shaped p True ≡ truth p true = search (rules, the_lemmas) in same)
 
-pub leaf_false : (x : Kept) (p : Place) → read_of x ≡ record { tree = shaped p False; height = 1 } → read_of x ≡ cap (truth p false)
+pub leaf_false : (x : MeasuredExpr) (p : Place) → read_of x ≡ record { tree = shaped p False; height = 1 } → read_of x ≡ cap (truth p false)
 leaf_false x p e = e ∙ ap (λ t. record { tree = t; height = 1 }) (let same : shaped p False ≡ truth p false = search (rules, the_lemmas) in same)
 
-pub leaf_name : (x : Kept) (p : Place) (path : Path) → read_of x ≡ record { tree = shaped p (Name path); height = 1 } → read_of x ≡ cap (name p path)
+pub leaf_name : (x : MeasuredExpr) (p : Place) (path : Path) → read_of x ≡ record { tree = shaped p (Name path); height = 1 } → read_of x ≡ cap (name p path)
 leaf_name x p path e = e ∙ ap (λ t. record { tree = t; height = 1 }) (let same : shaped p (Name path) ≡ name p path = search (rules, the_lemmas) in same)
 
-pub leaf_range : (x : Kept) (p : Place) (low high : ℤ) → read_of x ≡ record { tree = shaped p (Range low high); height = 1 } → read_of x ≡ cap (range p low high)
+pub leaf_range : (x : MeasuredExpr) (p : Place) (low high : ℤ) → read_of x ≡ record { tree = shaped p (Range low high); height = 1 } → read_of x ≡ cap (range p low high)
 leaf_range x p low high e = e ∙ ap (λ t. record { tree = t; height = 1 }) (let same : shaped p (Range low high) ≡ range p low high = search (rules, the_lemmas) in same)
 
 -- one more part
@@ -87,7 +87,7 @@ one_more_branch es all d e bs w v is before same same' =
     ∙ ap (λ u. map low_branch bs ++ u ∷ []) (plain_branch-at d e ∙ ap (λ u. (u, plain e)) same ∙ ap (λ u. (low w, u)) same') ∙ sym (map-append low_branch bs ((w, v) ∷ []))
 
 -- the whole shape
-pub keeps_chain : (p : Place) (b : Box Expr Global) (all : Vec Link Global) (x : Kept) (t : Tree) (ls : List (Infix × Tree)) (n : ℕ)
+pub keeps_chain : (p : Place) (b : Box Expr Global) (all : Vec Link Global) (x : MeasuredExpr) (t : Tree) (ls : List (Infix × Tree)) (n : ℕ)
     → 0 < length all.items → b.value ≡ x.expr → read_of x ≡ cap t → map plain_link all.items ≡ map low_link ls → n ≡ capped (chain_height (height t) (link_heights (links_of ls)))
     → keep_at p (shaped p (Chain b all)) n ≡ cap (whole p (record { first = t; links = ls }))
 keeps_chain p b all x t [] n some is read same h = absurd (let none : length (map plain_link all.items) ≡ 0 = ap length same in grind (arith, length-map all.items plain_link))
@@ -97,7 +97,7 @@ keeps_chain p b all x t (l ∷ ls) n some is read same h =
     (λ within. let w = chain-within 380 (height t) (link_heights (links_of (l ∷ ls))) within in
     ap (λ u. chain p u (links_of (map low_link (l ∷ ls)))) (low_is t w.0) ∙ ap (λ us. chain p t (links_of us)) (low_links (l ∷ ls) w.1))
 
-pub keeps_choice : (p : Place) (all : Vec Branch Global) (b : Box Expr Global) (x : Kept) (bs : List (Tree × Tree)) (t : Tree) (n : ℕ)
+pub keeps_choice : (p : Place) (all : Vec Branch Global) (b : Box Expr Global) (x : MeasuredExpr) (bs : List (Tree × Tree)) (t : Tree) (n : ℕ)
     → 0 < length all.items → b.value ≡ x.expr → read_of x ≡ cap t → map plain_branch all.items ≡ map low_branch bs → n ≡ capped (max (highest_branch 0 bs) (length bs + height t))
     → keep_at p (shaped p (Choice all b)) n ≡ cap (choice_at p (branches_of bs) t)
 keeps_choice p all b x [] t n some is read same h = absurd (let none : length (map plain_branch all.items) ≡ 0 = ap length same in grind (arith, length-map all.items plain_branch))

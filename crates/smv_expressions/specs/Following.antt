@@ -12,7 +12,7 @@ use Rattle.smv_grammar.specs.declared.levels.Leader.{Leader}
 use Rattle.smv_grammar.specs.declared.levels.Leader.TheVariants as leader
 use Rattle.smv_expressions.specs.declared.stop.Stop.{Stop}
 use Rattle.smv_expressions.specs.declared.stop.Stop.TheVariants.{Dead, NoMemory}
-use Rattle.smv_grammar.specs.Kept.{Read, cap}
+use Rattle.smv_grammar.specs.MeasuredExpr.{Read, cap}
 use Rattle.smv_grammar.specs.Ranks.{tightest}
 use Rattle.smv_grammar.specs.Machine.{Frame, State, bare, operand, when, whole, choice_at, ask, have, high_end, selected, failed, walk, took, dead, run}
 use Rattle.smv_grammar.specs.Reading.{Found, after, found, lost, starts_range, waiting}
@@ -89,7 +89,7 @@ chain_from class below p t k = have t (operand class (tightest below) p bare ∷
 abbrev pub chain_of : Place → Tree → List (Infix × Tree) → Tree
 chain_of p t ls = whole p (record { first = t; links = ls })
 
--- The machine has the first condition of a choice, and the choice of branches and what stands behind the last colon.
+-- The machine has the first condition of a choice, and the choice of branches and what is behind the last colon.
 abbrev pub choice_from : ℕ → Place → Tree → List Frame → State
 choice_from below p t k = have t (when (tightest below) p [] ∷ k)
 

@@ -7,15 +7,15 @@ use Rattle.smv_text.specs.declared.tree.Shape.{Shape}
 use Rattle.smv_text.specs.Tree.{Tree, name, links_of}
 use Rattle.smv_text.specs.Heights.{height, highest, folded, is_joined, is_implied, joined_number, link_heights}
 use Rattle.smv_text.specs.View.{plain, plain_link, plain_branch}
-use Rattle.smv_expressions.specs.declared.kept.Kept.{Kept}
+use Rattle.smv_expressions.specs.declared.kept.MeasuredExpr.{MeasuredExpr}
 use Rattle.smv_expressions.specs.declared.kept.Members.{Members}
 use Rattle.smv_expressions.specs.declared.kept.Cases.{Cases}
 use Rattle.smv_expressions.specs.declared.kept.Heights.{Heights}
 use Rattle.smv_expressions.specs.declared.kept.Operands.{Operands}
-use Rattle.smv_grammar.specs.Kept.{Read, cap, capped}
+use Rattle.smv_grammar.specs.MeasuredExpr.{Read, cap, capped}
 
 -- what is kept
-abbrev pub read_of : Kept → Read
+abbrev pub read_of : MeasuredExpr → Read
 read_of x = record { tree = plain x.expr; height = x.height }
 
 -- the tree of a shape
@@ -51,7 +51,7 @@ pub record AreCases (bs : List (Tree × Tree)) (c : Cases) : Type 0 where
   pub depth : c.depth ≡ capped (length bs)
   pub highest : c.highest ≡ capped (highest_branch 0 bs)
 
--- the branches of a choice, and what is kept of what stands behind the last colon
+-- the branches of a choice, and what is kept of what is behind the last colon
 abbrev pub IsChoice : Cases → Read → List (Tree × Tree) × Tree → Type 0
 IsChoice c r x = AreCases x.0 c × (r ≡ cap x.1)
 

@@ -6,7 +6,7 @@ ghost use Rattle.std.specs.Prelude.{◌≡◌, ◌<◌, ◌≤◌, ◌-◌, ◌^
 ghost use Rattle.smv_text.specs.Levels.{all_levels};
 ghost use Rattle.smv_text.specs.Grammar.{start, Spells};
 ghost use Rattle.smv_text.specs.Tree.{Tree, cases, branches_of};
-ghost use Rattle.smv_grammar.specs.Kept.{cap};
+ghost use Rattle.smv_grammar.specs.MeasuredExpr.{cap};
 ghost use Rattle.smv_grammar.specs.Ranks.{level_at, tightest};
 ghost use Rattle.smv_expressions.specs.Gathered.{read_of, AreMembers, AreCases, AreOperands, IsChoice};
 ghost use Rattle.smv_grammar.specs.Machine.{bare, operand, when, selected, condition, listing, ask, have, signed, open_next, opened, prefix_sign, closing_of, leader_of, whole, choice_at, listed};
@@ -15,8 +15,8 @@ ghost use Rattle.smv_grammar.specs.Reading.{starts_range, waiting};
 ghost use Rattle.smv_expressions.specs.Following.{chain_from, chain_of, choice_from, choice_of, IsOperand, Begins, first_level, is_alone, Collects, Follows, Selects, Takes};
 
 use crate::kept::{
-    Cases, Kept, Members, Operands, discard, leaf, name_leaf, next_value, prefixed as with_prefix,
-    put_leaf, selected, taken,
+    Cases, MeasuredExpr, Members, Operands, discard, leaf, name_leaf, next_value,
+    prefixed as with_prefix, put_leaf, selected, taken,
 };
 use crate::leaves::{expect, integer, number, path, starts_range};
 use crate::stop::Stop;
@@ -34,7 +34,7 @@ use text_core::{FIRST_PLACE, Place};
 pub fn expression<'a>(
     alloc: Global,
     tokens: &'a [Token],
-    kept: &mut Kept,
+    kept: &mut MeasuredExpr,
 ) -> Result<&'a [Token], Stop>
     requires { length tokens.now < 2 ^ 32 }
     // The result is that of the machine of the grammar, with the remaining tokens.
@@ -60,7 +60,7 @@ fn read<'a>(
     alloc: Global,
     levels: usize,
     tokens: &'a [Token],
-    kept: &mut Kept,
+    kept: &mut MeasuredExpr,
 ) -> Result<&'a [Token], Stop>
     requires few { levels ≤ 16 }
     requires short { length tokens.now < 2 ^ 32 }
@@ -86,7 +86,7 @@ fn read<'a>(
 
 // Stores the operand if the token alone is one, a number or a truth value, and returns whether it is.
 #[inline(never)]
-fn put_constant(token: &Token, rest: &[Token], kept: &mut Kept) -> bool
+fn put_constant(token: &Token, rest: &[Token], kept: &mut MeasuredExpr) -> bool
     ensures { OnTrue result (IsOperand token.now rest.now (read_of kept.new)) }
 {
     match &token.kind {
@@ -135,7 +135,7 @@ fn begin<'a>(
     alloc: Global,
     level: usize,
     tokens: &'a [Token],
-    kept: &mut Kept,
+    kept: &mut MeasuredExpr,
 ) -> Result<&'a [Token], Stop>
     requires begins { Begins level tokens.now }
     requires short { length tokens.now < 2 ^ 32 }
@@ -159,7 +159,11 @@ fn begin<'a>(
 }
 
 #[inline(never)]
-fn range<'a>(place: Place, tokens: &'a [Token], kept: &mut Kept) -> Result<&'a [Token], Stop>
+fn range<'a>(
+    place: Place,
+    tokens: &'a [Token],
+    kept: &mut MeasuredExpr,
+) -> Result<&'a [Token], Stop>
     requires starts { starts_range tokens.now ≡ true }
     requires first { place ≡ start tokens.now }
     ensures reads { Follows (λ r. (read_of kept.new, r.now)) (ask (tightest 8)) tokens.now result }
@@ -182,7 +186,7 @@ fn climb<'a>(
     place: Place,
     level: usize,
     tokens: &'a [Token],
-    kept: &mut Kept,
+    kept: &mut MeasuredExpr,
 ) -> Result<&'a [Token], Stop>
     requires few { levels ≤ 16 }
     requires short { length tokens.now < 2 ^ 32 }
@@ -205,7 +209,7 @@ fn ascend<'a>(
     place: Place,
     level: usize,
     tokens: &'a [Token],
-    kept: &mut Kept,
+    kept: &mut MeasuredExpr,
 ) -> Result<&'a [Token], Stop>
     requires few { levels ≤ 16 }
     requires short { length tokens.now < 2 ^ 32 }
@@ -233,7 +237,7 @@ fn grown<'a>(
     below: usize,
     place: Place,
     tokens: &'a [Token],
-    kept: &mut Kept,
+    kept: &mut MeasuredExpr,
 ) -> Result<&'a [Token], Stop>
     requires few { below < 16 }
     requires short { length tokens.now < 2 ^ 32 }
@@ -257,7 +261,7 @@ fn chain<'a>(
     below: usize,
     place: Place,
     tokens: &'a [Token],
-    kept: &mut Kept,
+    kept: &mut MeasuredExpr,
 ) -> Result<&'a [Token], Stop>
     requires few { below < 16 }
     requires short { length tokens.now < 2 ^ 32 }
@@ -281,7 +285,7 @@ fn gather_operands<'a>(
     class: OperatorClass,
     below: usize,
     tokens: &'a [Token],
-    part: &mut Kept,
+    part: &mut MeasuredExpr,
     operands: &mut Operands,
 ) -> Result<&'a [Token], Stop>
     requires few { below < 16 }
@@ -305,7 +309,7 @@ fn choice<'a>(
     below: usize,
     place: Place,
     tokens: &'a [Token],
-    kept: &mut Kept,
+    kept: &mut MeasuredExpr,
 ) -> Result<&'a [Token], Stop>
     requires few { below < 16 }
     requires short { length tokens.now < 2 ^ 32 }
@@ -329,8 +333,8 @@ fn gather_choices<'a>(
     alloc: Global,
     below: usize,
     tokens: &'a [Token],
-    value: &mut Kept,
-    kept: &mut Kept,
+    value: &mut MeasuredExpr,
+    kept: &mut MeasuredExpr,
     branches: &mut Cases,
 ) -> Result<&'a [Token], Stop>
     requires few { below < 16 }
@@ -354,7 +358,7 @@ fn selections<'a>(
     alloc: Global,
     place: Place,
     tokens: &'a [Token],
-    kept: &mut Kept,
+    kept: &mut MeasuredExpr,
 ) -> Result<&'a [Token], Stop>
     ensures reads { (t : Tree) → read_of kept.old ≡ cap t → Follows (λ r. (read_of kept.new, r.now)) (λ k. have t (selected place ∷ k)) tokens.now result }
     ensures shorter { IfOk result (λ r. length r.now ≤ length tokens.now) }
@@ -389,7 +393,7 @@ fn prefixed<'a>(
     below: usize,
     place: Place,
     tokens: &'a [Token],
-    kept: &mut Kept,
+    kept: &mut MeasuredExpr,
 ) -> Result<&'a [Token], Stop>
     requires few { below < 16 }
     requires short { length tokens.now < 2 ^ 32 - 1 }
@@ -419,7 +423,11 @@ fn sign_of(prefix: Prefix) -> Sign
 // An expression below all levels.
 #[cycle(read)]
 #[inline(never)]
-fn primary<'a>(alloc: Global, tokens: &'a [Token], kept: &mut Kept) -> Result<&'a [Token], Stop>
+fn primary<'a>(
+    alloc: Global,
+    tokens: &'a [Token],
+    kept: &mut MeasuredExpr,
+) -> Result<&'a [Token], Stop>
     requires short { length tokens.now < 2 ^ 32 }
     ensures reads { Follows (λ r. (read_of kept.new, r.now)) (ask []) tokens.now result }
     ensures shorter { IfOk result (λ r. length r.now < length tokens.now) }
@@ -454,7 +462,7 @@ fn alone<'a>(
     token: &Token,
     tokens: &'a [Token],
     rest: &'a [Token],
-    kept: &mut Kept,
+    kept: &mut MeasuredExpr,
 ) -> Result<&'a [Token], Stop>
     requires first { tokens.now ≡ token.now ∷ rest.now }
     requires leads { leader ≡ leader_of token.now.kind }
@@ -500,7 +508,7 @@ fn following<'a>(
     alloc: Global,
     place: Place,
     tokens: &'a [Token],
-    kept: &mut Kept,
+    kept: &mut MeasuredExpr,
 ) -> Result<&'a [Token], Stop>
     requires short { length tokens.now < 2 ^ 32 }
     ensures reads { Follows (λ r. (read_of kept.new, r.now)) (open_next place) tokens.now result }
@@ -521,7 +529,7 @@ fn listed<'a>(
     place: Place,
     what: Listing,
     tokens: &'a [Token],
-    kept: &mut Kept,
+    kept: &mut MeasuredExpr,
 ) -> Result<&'a [Token], Stop>
     requires short { length tokens.now < 2 ^ 32 }
     ensures reads { Follows (λ r. (read_of kept.new, r.now)) (λ k. ask all_levels (listing place what [] ∷ k)) tokens.now result }
@@ -540,7 +548,7 @@ fn gather_members<'a>(
     alloc: Global,
     what: Listing,
     tokens: &'a [Token],
-    kept: &mut Kept,
+    kept: &mut MeasuredExpr,
     members: &mut Members,
 ) -> Result<&'a [Token], Stop>
     requires short { length tokens.now < 2 ^ 32 }
@@ -574,7 +582,7 @@ fn cases<'a>(
     alloc: Global,
     place: Place,
     tokens: &'a [Token],
-    kept: &mut Kept,
+    kept: &mut MeasuredExpr,
 ) -> Result<&'a [Token], Stop>
     requires short { length tokens.now < 2 ^ 32 }
     ensures reads { Follows (λ r. (read_of kept.new, r.now)) (λ k. ask all_levels (condition place [] ∷ k)) tokens.now result }
@@ -595,8 +603,8 @@ fn cases<'a>(
 fn gather_cases<'a>(
     alloc: Global,
     tokens: &'a [Token],
-    when: &mut Kept,
-    value: &mut Kept,
+    when: &mut MeasuredExpr,
+    value: &mut MeasuredExpr,
     branches: &mut Cases,
 ) -> Result<&'a [Token], Stop>
     requires short { length tokens.now < 2 ^ 32 }

@@ -5,7 +5,7 @@ ghost use Rattle.smv_text.specs.Heights.{height, chain_height, is_implied, is_jo
 ghost use Rattle.smv_text.specs.Tree.{Tree, prefix, select, next, cases, branches_of};
 ghost use Rattle.smv_text.specs.View.{plain};
 ghost use Rattle.smv_expressions.specs.declared.stop.Stop.TheVariants.{NoMemory};
-ghost use Rattle.smv_grammar.specs.Kept.{cap, capped, keep_at};
+ghost use Rattle.smv_grammar.specs.MeasuredExpr.{cap, capped, keep_at};
 ghost use Rattle.smv_grammar.specs.Machine.{listed, choice_at, whole};
 ghost use Rattle.smv_expressions.specs.Gathered.{read_of, shaped, single, AreMembers, AreCases, AreHeights, AreOperands, first_number};
 
@@ -20,7 +20,7 @@ use text_core::{Name, Names, Place};
 ///
 /// An expression above the limit is not stored. A leaf then takes its place, with a height above the limit.
 #[derive(Drop)]
-pub struct Kept {
+pub struct MeasuredExpr {
     pub expr: Expr,
     pub height: u32,
 }
@@ -51,7 +51,7 @@ fn under(depth: u32, height: u32) -> u32
 // Stores an expression of this height. Mostly a leaf was stored before, which is tested first: a drop takes much
 // longer.
 #[inline(always)]
-fn put(kept: &mut Kept, place: Place, shape: Shape, height: u32)
+fn put(kept: &mut MeasuredExpr, place: Place, shape: Shape, height: u32)
     ensures { read_of kept.new ≡ record { tree = shaped place shape; height = height } }
 {
     match &kept.expr.shape {
@@ -64,7 +64,7 @@ fn put(kept: &mut Kept, place: Place, shape: Shape, height: u32)
 }
 
 #[inline(never)]
-fn put_over(kept: &mut Kept, place: Place, shape: Shape, height: u32)
+fn put_over(kept: &mut MeasuredExpr, place: Place, shape: Shape, height: u32)
     ensures { read_of kept.new ≡ record { tree = shaped place shape; height = height } }
 {
     kept.expr = Expr { place, shape };
@@ -73,7 +73,7 @@ fn put_over(kept: &mut Kept, place: Place, shape: Shape, height: u32)
 
 // Stores an expression of this height, or a leaf where the height is above the limit.
 #[inline(always)]
-fn keep(kept: &mut Kept, place: Place, shape: Shape, height: u32)
+fn keep(kept: &mut MeasuredExpr, place: Place, shape: Shape, height: u32)
     ensures { read_of kept.new ≡ keep_at place (shaped place shape) height }
 {
     if height <= MOST {
@@ -86,7 +86,7 @@ fn keep(kept: &mut Kept, place: Place, shape: Shape, height: u32)
 // Moves the stored expression into a box, and leaves a leaf. The room is reserved first: after the swap it is clear
 // that `keep` drops a leaf.
 #[inline(always)]
-fn boxed(alloc: Global, kept: &mut Kept) -> Result<Box<Expr>, Stop>
+fn boxed(alloc: Global, kept: &mut MeasuredExpr) -> Result<Box<Expr>, Stop>
     ensures made { IfOk result (λ b. b.value ≡ kept.old.expr) }
     ensures free { IfErr result (λ e. e ≡ NoMemory) }
 {
@@ -101,10 +101,10 @@ fn boxed(alloc: Global, kept: &mut Kept) -> Result<Box<Expr>, Stop>
 }
 
 /// Returns an expression without subexpressions.
-pub fn leaf(place: Place, shape: Shape) -> Kept
+pub fn leaf(place: Place, shape: Shape) -> MeasuredExpr
     ensures { read_of result ≡ record { tree = shaped place shape; height = 1 } }
 {
-    Kept {
+    MeasuredExpr {
         expr: Expr { place, shape },
         height: 1,
     }
@@ -112,7 +112,7 @@ pub fn leaf(place: Place, shape: Shape) -> Kept
 
 /// Stores an expression without subexpressions.
 #[inline(always)]
-pub(crate) fn put_leaf(kept: &mut Kept, place: Place, shape: Shape)
+pub(crate) fn put_leaf(kept: &mut MeasuredExpr, place: Place, shape: Shape)
     ensures { read_of kept.new ≡ record { tree = shaped place shape; height = 1 } }
 {
     put(kept, place, shape, 1);
@@ -124,7 +124,7 @@ pub(crate) fn name_leaf(
     alloc: Global,
     place: Place,
     name: &Name,
-    kept: &mut Kept,
+    kept: &mut MeasuredExpr,
 ) -> Result<(), Stop>
     ensures made { OnOk result (read_of kept.new ≡ cap (single place name.now)) }
     ensures free { IfErr result (λ e. e ≡ NoMemory) }
@@ -139,7 +139,7 @@ pub(crate) fn name_leaf(
 }
 
 /// Takes the stored expression, and leaves a leaf.
-pub(crate) fn taken(kept: &mut Kept) -> Kept
+pub(crate) fn taken(kept: &mut MeasuredExpr) -> MeasuredExpr
     ensures { result ≡ kept.old }
 {
     let place = kept.expr.place;
@@ -150,7 +150,7 @@ pub(crate) fn taken(kept: &mut Kept) -> Kept
 ///
 /// This is a function of its own so that the functions that read expressions stay small.
 #[inline(never)]
-pub(crate) fn discard(_kept: Kept) {}
+pub(crate) fn discard(_kept: MeasuredExpr) {}
 
 /// Stores the repeated prefix operator applied to the stored expression.
 pub(crate) fn prefixed(
@@ -158,7 +158,7 @@ pub(crate) fn prefixed(
     place: Place,
     sign: Prefix,
     count: u32,
-    kept: &mut Kept,
+    kept: &mut MeasuredExpr,
 ) -> Result<(), Stop>
     ensures made { (t : Tree) → read_of kept.old ≡ cap t → OnOk result (read_of kept.new ≡ cap (prefix place sign count t)) }
     ensures free { IfErr result (λ e. e ≡ NoMemory) }
@@ -173,7 +173,7 @@ pub(crate) fn prefixed(
 pub(crate) fn selected(
     alloc: Global,
     place: Place,
-    kept: &mut Kept,
+    kept: &mut MeasuredExpr,
     high: u64,
     low: u64,
 ) -> Result<(), Stop>
@@ -187,7 +187,7 @@ pub(crate) fn selected(
 }
 
 /// Stores `next` of the stored expression.
-pub(crate) fn next_value(alloc: Global, place: Place, kept: &mut Kept) -> Result<(), Stop>
+pub(crate) fn next_value(alloc: Global, place: Place, kept: &mut MeasuredExpr) -> Result<(), Stop>
     ensures made { (t : Tree) → read_of kept.old ≡ cap t → OnOk result (read_of kept.new ≡ cap (next place t)) }
     ensures free { IfErr result (λ e. e ≡ NoMemory) }
 {
@@ -214,7 +214,7 @@ impl Members {
         }
     }
 
-    pub(crate) fn push(&mut self, member: Kept) -> Result<(), Stop>
+    pub(crate) fn push(&mut self, member: MeasuredExpr) -> Result<(), Stop>
         ensures made { (ts : List Tree) (t : Tree) → AreMembers ts self.old → read_of member ≡ cap t → OnOk result (AreMembers (ts ++ t ∷ []) self.new) }
         ensures free { IfErr result (λ e. e ≡ NoMemory) }
     {
@@ -224,7 +224,7 @@ impl Members {
     }
 
     /// Stores the list.
-    pub(crate) fn put(self, place: Place, what: Listing, kept: &mut Kept)
+    pub(crate) fn put(self, place: Place, what: Listing, kept: &mut MeasuredExpr)
         ensures { (ts : List Tree) → AreMembers ts self → read_of kept.new ≡ cap (listed place what ts) }
     {
         let height = under(1, self.highest);
@@ -257,7 +257,7 @@ impl Cases {
     }
 
     #[inline(always)]
-    pub(crate) fn push(&mut self, when: Kept, value: Kept) -> Result<(), Stop>
+    pub(crate) fn push(&mut self, when: MeasuredExpr, value: MeasuredExpr) -> Result<(), Stop>
         ensures made { (bs : List (Tree × Tree)) (w v : Tree) → AreCases bs self.old → read_of when ≡ cap w → read_of value ≡ cap v → OnOk result (AreCases (bs ++ (w, v) ∷ []) self.new) }
         ensures free { IfErr result (λ e. e ≡ NoMemory) }
     {
@@ -274,7 +274,12 @@ impl Cases {
     /// Stores the choice with the stored expression as the value after the last colon.
     ///
     /// Without branches, leaves the stored expression unchanged.
-    pub(crate) fn choice(self, alloc: Global, place: Place, kept: &mut Kept) -> Result<(), Stop>
+    pub(crate) fn choice(
+        self,
+        alloc: Global,
+        place: Place,
+        kept: &mut MeasuredExpr,
+    ) -> Result<(), Stop>
         ensures made { (bs : List (Tree × Tree)) (t : Tree) → AreCases bs self → read_of kept.old ≡ cap t → OnOk result (read_of kept.new ≡ cap (choice_at place (branches_of bs) t)) }
         ensures free { IfErr result (λ e. e ≡ NoMemory) }
     {
@@ -288,7 +293,7 @@ impl Cases {
     }
 
     /// Stores the case.
-    pub(crate) fn case(self, place: Place, kept: &mut Kept)
+    pub(crate) fn case(self, place: Place, kept: &mut MeasuredExpr)
         ensures { (bs : List (Tree × Tree)) → AreCases bs self → read_of kept.new ≡ cap (cases place (branches_of bs)) }
     {
         let height = higher(self.highest, self.depth);
@@ -433,7 +438,7 @@ impl Operands {
         }
     }
 
-    pub(crate) fn push(&mut self, op: Infix, operand: Kept) -> Result<(), Stop>
+    pub(crate) fn push(&mut self, op: Infix, operand: MeasuredExpr) -> Result<(), Stop>
         ensures made { (t : Tree) (ls : List (Infix × Tree)) (u : Tree) → AreOperands t ls self.old → read_of operand ≡ cap u → OnOk result (AreOperands t (ls ++ (op, u) ∷ []) self.new) }
         ensures free { IfErr result (λ e. e ≡ NoMemory) }
     {
@@ -448,7 +453,12 @@ impl Operands {
     /// Stores the chain with the stored expression as its first operand.
     ///
     /// Without further operands, leaves the stored expression unchanged.
-    pub(crate) fn chain(self, alloc: Global, place: Place, kept: &mut Kept) -> Result<(), Stop>
+    pub(crate) fn chain(
+        self,
+        alloc: Global,
+        place: Place,
+        kept: &mut MeasuredExpr,
+    ) -> Result<(), Stop>
         ensures made { (t : Tree) (ls : List (Infix × Tree)) → AreOperands t ls self → read_of kept.old ≡ cap t → OnOk result (read_of kept.new ≡ cap (whole place (record { first = t; links = ls }))) }
         ensures free { IfErr result (λ e. e ≡ NoMemory) }
     {

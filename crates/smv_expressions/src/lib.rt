@@ -7,6 +7,6 @@ mod leaves;
 mod stop;
 
 pub use climbing::{expression, start};
-pub use kept::{Kept, MOST, leaf};
+pub use kept::{MOST, MeasuredExpr, leaf};
 pub use leaves::{expect, integer, name, number, path};
 pub use stop::Stop;

@@ -82,7 +82,7 @@ abbrev mutual
 abbrev pub unless_set : Bool → Option ExprType → Option ExprType
 unless_set is_set t = if is_set then None else t
 
--- given what its names are to the types and what they become, where it stands, and whether that is under `next`
+-- given what its names are to the types and what they become, where it is, and whether that is under `next`
 abbrev mutual
   pub flat_tree : (Path → Named) → (Path → Leaf) → Position → Bool → Tree → FlatTree
   flat_tree names leaf at under (truth p b) = flat_truth (typing names at (truth p b)).type b

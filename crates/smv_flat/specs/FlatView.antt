@@ -88,7 +88,7 @@ fronts_type at p t (link op e ls) (u ∷ us) = fronts_type at p (front_step op a
 abbrev pub chain_type : Position → Place → Option ExprType → Links → List (Option ExprType) → Option ExprType
 chain_type at p t ls ts = if is_from_right ls then (implies_step p (all_types (t ∷ ts))).type else fronts_type at p t ls ts
 
--- the types of the operands behind operators, each where it stands
+-- the types of the operands behind operators, each where it is
 abbrev pub behind_types : (Path → Named) → Position → Links → List (Option ExprType)
 behind_types names at no_links = []
 behind_types names at (link op e ls) = (typing names (behind op at) e).type ∷ behind_types names at ls

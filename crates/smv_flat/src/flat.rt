@@ -5,7 +5,7 @@ ghost use Rattle.smv_text.specs.View.{plain, plain_link, plain_branch};
 ghost use Rattle.smv_meaning.specs.Types.{ExprType, truth_type};
 ghost use Rattle.smv_meaning.specs.Checks.{literal_type};
 ghost use Rattle.smv_meaning.specs.Settled.{types_in};
-ghost use Rattle.smv_types.specs.View.{named_seen, standing_seen};
+ghost use Rattle.smv_types.specs.View.{named_seen, permissions_seen};
 ghost use Rattle.smv_types.specs.Steps.{number_step, name_step, next_step, range_step};
 ghost use Rattle.smv_flat.specs.FlatTree.{FlatTree, flat_truth, flat_number, flat_literal, flat_range, leaf_tree};
 ghost use Rattle.smv_instances.specs.View.{instance_plain};
@@ -26,7 +26,7 @@ use smv_items::Leaf;
 use smv_text::{Branch, Expr, Link, Path, Shape};
 use smv_types::chains::{first_standing, operand_standing};
 use smv_types::lists::BranchTypes;
-use smv_types::{Named, Standing};
+use smv_types::{Named, Permissions};
 use std::alloc::Global;
 use text_core::{NoMemory, Place};
 use word_core::Word;
@@ -68,8 +68,8 @@ fn literal_node(word: &Word) -> Typed
     }
 }
 
-fn name_node(place: Place, at: Standing, named: Named, leaf: Leaf, under: bool) -> Typed
-    ensures { IsNode result (leaf_tree (name_step place (standing_seen at) (named_seen named)).type under (leaf_plain leaf)) (name_step place (standing_seen at) (named_seen named)).type false }
+fn name_node(place: Place, at: Permissions, named: Named, leaf: Leaf, under: bool) -> Typed
+    ensures { IsNode result (leaf_tree (name_step place (permissions_seen at) (named_seen named)).type under (leaf_plain leaf)) (name_step place (permissions_seen at) (named_seen named)).type false }
 {
     let ty = name_type(place, at, named);
     let shape = match leaf {
@@ -91,11 +91,11 @@ fn path_node<'s, 'a, 'n, N: Naming>(
     i: usize,
     place: Place,
     path: &'a Path,
-    at: Standing,
+    at: Permissions,
     under: bool,
 ) -> Result<Typed, NoMemory>
     requires model { N.instances context.now.naming.now ≡ map instance_plain context.now.table.now }
-    ensures { IfOk result (IsFlat (types_in true (map instance_plain context.now.table.now) i) (leaf_in (map instance_plain context.now.table.now) i) (standing_seen at) under (name place path.now)) }
+    ensures { IfOk result (IsFlat (types_in true (map instance_plain context.now.table.now) i) (leaf_in (map instance_plain context.now.table.now) i) (permissions_seen at) under (name place path.now)) }
 {
     let target = context.table.target(i, path);
     let leaf = context.leaf_of(alloc, target)?;
@@ -103,8 +103,8 @@ fn path_node<'s, 'a, 'n, N: Naming>(
     Ok(name_node(place, at, named, leaf, under))
 }
 
-fn range_node(place: Place, at: Standing, low: i64, high: i64) -> Typed
-    ensures { IsNode result (flat_range None low high) (range_step place (standing_seen at) low high).type true }
+fn range_node(place: Place, at: Permissions, low: i64, high: i64) -> Typed
+    ensures { IsNode result (flat_range None low high) (range_step place (permissions_seen at) low high).type true }
 {
     let ty = range_type(place, at, low, high);
     let shape = FlatShape::Range(low, high);
@@ -116,8 +116,8 @@ fn range_node(place: Place, at: Standing, low: i64, high: i64) -> Typed
 }
 
 // `next` disappears: the items below it are marked.
-fn next_node(place: Place, at: Standing, operand: Typed) -> Typed
-    ensures { (tree : FlatTree) (type : Option ExprType) (set : Bool) → IsNode operand tree type set → IsNode result tree (next_step place (standing_seen at) type).type set }
+fn next_node(place: Place, at: Permissions, operand: Typed) -> Typed
+    ensures { (tree : FlatTree) (type : Option ExprType) (set : Bool) → IsNode operand tree type set → IsNode result tree (next_step place (permissions_seen at) type).type set }
 {
     let ty = next_type(place, at, operand.ty);
     Typed {
@@ -136,11 +136,11 @@ pub(crate) fn flat<'s, 'a, 'n, N: Naming>(
     context: &Context<'s, 'a, 'n, N>,
     i: usize,
     e: &'a Expr,
-    at: Standing,
+    at: Permissions,
     under: bool,
 ) -> Result<Typed, NoMemory>
     requires model { N.instances context.now.naming.now ≡ map instance_plain context.now.table.now }
-    ensures { IfOk result (IsFlat (types_in true (map instance_plain context.now.table.now) i) (leaf_in (map instance_plain context.now.table.now) i) (standing_seen at) under (plain e.now)) }
+    ensures { IfOk result (IsFlat (types_in true (map instance_plain context.now.table.now) i) (leaf_in (map instance_plain context.now.table.now) i) (permissions_seen at) under (plain e.now)) }
 {
     let place = e.place;
     match &e.shape {
@@ -179,7 +179,7 @@ pub(crate) fn flat<'s, 'a, 'n, N: Naming>(
             called(alloc, place, *function, arguments, parts)
         }
         Shape::Next(operand) => {
-            let x = flat(alloc, context, i, operand, Standing::under_next(), true)?;
+            let x = flat(alloc, context, i, operand, Permissions::under_next(), true)?;
             Ok(next_node(place, at, x))
         }
         Shape::Set(elements) => {
@@ -196,11 +196,11 @@ fn flat_links<'s, 'a, 'n, N: Naming>(
     context: &Context<'s, 'a, 'n, N>,
     i: usize,
     links: &'a [Link],
-    at: Standing,
+    at: Permissions,
     under: bool,
 ) -> Result<Operands, NoMemory>
     requires model { N.instances context.now.naming.now ≡ map instance_plain context.now.table.now }
-    ensures { IfOk result (AreFlatLinks (types_in true (map instance_plain context.now.table.now) i) (leaf_in (map instance_plain context.now.table.now) i) (standing_seen at) under (links_of (map plain_link links.now))) }
+    ensures { IfOk result (AreFlatLinks (types_in true (map instance_plain context.now.table.now) i) (leaf_in (map instance_plain context.now.table.now) i) (permissions_seen at) under (links_of (map plain_link links.now))) }
 {
     let mut operands = Operands {
         links: Vec::new(alloc),
@@ -226,11 +226,11 @@ fn flat_branches<'s, 'a, 'n, N: Naming>(
     context: &Context<'s, 'a, 'n, N>,
     i: usize,
     branches: &'a [Branch],
-    at: Standing,
+    at: Permissions,
     under: bool,
 ) -> Result<Cases, NoMemory>
     requires model { N.instances context.now.naming.now ≡ map instance_plain context.now.table.now }
-    ensures { IfOk result (AreFlatBranches (types_in true (map instance_plain context.now.table.now) i) (leaf_in (map instance_plain context.now.table.now) i) (standing_seen at) under (branches_of (map plain_branch branches.now))) }
+    ensures { IfOk result (AreFlatBranches (types_in true (map instance_plain context.now.table.now) i) (leaf_in (map instance_plain context.now.table.now) i) (permissions_seen at) under (branches_of (map plain_branch branches.now))) }
 {
     let mut cases = Cases {
         branches: Vec::new(alloc),
@@ -254,11 +254,11 @@ fn flat_parts<'s, 'a, 'n, N: Naming>(
     context: &Context<'s, 'a, 'n, N>,
     i: usize,
     parts: &'a [Expr],
-    at: Standing,
+    at: Permissions,
     under: bool,
 ) -> Result<Parts, NoMemory>
     requires model { N.instances context.now.naming.now ≡ map instance_plain context.now.table.now }
-    ensures { IfOk result (AreFlatTrees (types_in true (map instance_plain context.now.table.now) i) (leaf_in (map instance_plain context.now.table.now) i) (standing_seen at) under (trees_of (map plain parts.now))) }
+    ensures { IfOk result (AreFlatTrees (types_in true (map instance_plain context.now.table.now) i) (leaf_in (map instance_plain context.now.table.now) i) (permissions_seen at) under (trees_of (map plain parts.now))) }
 {
     let mut all = Parts {
         exprs: Vec::new(alloc),

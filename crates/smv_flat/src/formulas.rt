@@ -17,7 +17,7 @@ use crate::targets::{Numbered, number_behind};
 use smv_instances::{Instance, Table};
 use smv_items::{Content, ItemNumbers, Origin, Symbols, own_count};
 use smv_text::{Assignment, Assignments, Element, Elements, Expr, When};
-use smv_types::{Position, Standing};
+use smv_types::{Permissions, Position};
 use std::alloc::Global;
 use text_core::NoMemory;
 
@@ -41,7 +41,7 @@ fn formula<'s, 'a, 'n, N: Naming>(
     ensures { IfOk result (λ f. form_plain f ≡ form_of (map instance_plain context.now.table.now) source.entry) }
 {
     let instance = small(source.instance)?;
-    let at = Standing::of(source.position);
+    let at = Permissions::of(source.position);
     let x = flat(alloc, context, source.reader, source.body, at, false)?;
     Ok(FlatFormula {
         instance,

@@ -5,7 +5,7 @@ ghost use Rattle.smv_text.specs.View.{plain, plain_link};
 ghost use Rattle.smv_meaning.specs.Types.{ExprType, numbers_of};
 ghost use Rattle.smv_meaning.specs.Checks.{Check, node, all_types};
 ghost use Rattle.smv_intervals.specs.View.{seen};
-ghost use Rattle.smv_types.specs.View.{standing_seen, named_seen};
+ghost use Rattle.smv_types.specs.View.{permissions_seen, named_seen};
 ghost use Rattle.smv_types.specs.Outcome.{Answers, Ends};
 ghost use Rattle.smv_types.specs.Steps.{number_step, name_step, prefix_step, select_step, next_step, range_step, front_step, implies_step, branches_step, call_step, set_step};
 ghost use Rattle.smv_flat.specs.FlatView.{fronts_type};
@@ -16,7 +16,7 @@ use smv_types::calls::check_call;
 use smv_types::chains::check_front;
 use smv_types::lists::{BranchTypes, check_branches, check_implication, check_set};
 use smv_types::nodes::{check_next, check_range, check_selection, check_sign, name, number};
-use smv_types::{CheckEnd, Named, Standing};
+use smv_types::{CheckEnd, Named, Permissions};
 use std::alloc::Global;
 use text_core::{NoMemory, Place, Refusal};
 
@@ -48,8 +48,8 @@ pub(crate) fn number_type(place: Place, n: u64) -> Option<Ty>
     settled(number(place, n))
 }
 
-pub(crate) fn name_type(place: Place, at: Standing, named: Named) -> Option<Ty>
-    ensures { option_map seen result ≡ (name_step place (standing_seen at) (named_seen named)).type }
+pub(crate) fn name_type(place: Place, at: Permissions, named: Named) -> Option<Ty>
+    ensures { option_map seen result ≡ (name_step place (permissions_seen at) (named_seen named)).type }
 {
     settled(name(place, at, named))
 }
@@ -66,27 +66,27 @@ pub(crate) fn select_type(place: Place, operand: Option<Ty>, high: u64, low: u64
     settled(check_selection(place, operand, high, low))
 }
 
-pub(crate) fn next_type(place: Place, at: Standing, operand: Option<Ty>) -> Option<Ty>
-    ensures { option_map seen result ≡ (next_step place (standing_seen at) (option_map seen operand)).type }
+pub(crate) fn next_type(place: Place, at: Permissions, operand: Option<Ty>) -> Option<Ty>
+    ensures { option_map seen result ≡ (next_step place (permissions_seen at) (option_map seen operand)).type }
 {
     settled(check_next(place, at, operand))
 }
 
-pub(crate) fn range_type(place: Place, at: Standing, low: i64, high: i64) -> Option<Ty>
-    ensures { option_map seen result ≡ (range_step place (standing_seen at) low high).type }
+pub(crate) fn range_type(place: Place, at: Permissions, low: i64, high: i64) -> Option<Ty>
+    ensures { option_map seen result ≡ (range_step place (permissions_seen at) low high).type }
 {
     settled(check_range(place, at, low, high))
 }
 
 fn front_type(
     op: Infix,
-    at: Standing,
+    at: Permissions,
     place: Place,
     left: Option<Ty>,
     right: Option<Ty>,
     operand: &Expr,
 ) -> Option<Ty>
-    ensures { option_map seen result ≡ (front_step op (standing_seen at) place (option_map seen left) (option_map seen right) (plain operand.now)).type }
+    ensures { option_map seen result ≡ (front_step op (permissions_seen at) place (option_map seen left) (option_map seen right) (plain operand.now)).type }
 {
     settled(check_front(op, at, place, left, right, operand))
 }
@@ -94,13 +94,13 @@ fn front_type(
 // The type of a left-associative chain, prefix by prefix.
 #[tactic(auto, using(smv_meaning::specs::laws::Lists::front_is, smv_meaning::specs::laws::Lists::end_is))]
 pub(crate) fn fronts_type(
-    at: Standing,
+    at: Permissions,
     place: Place,
     first: Option<Ty>,
     links: &[Link],
     types: &[Option<Ty>],
 ) -> Option<Ty>
-    ensures { option_map seen result ≡ fronts_type (standing_seen at) place (option_map seen first) (links_of (map plain_link links.now)) (map (option_map seen) types.now) }
+    ensures { option_map seen result ≡ fronts_type (permissions_seen at) place (option_map seen first) (links_of (map plain_link links.now)) (map (option_map seen) types.now) }
 {
     let mut whole = first;
     for k in 0..links.len() {
@@ -160,10 +160,10 @@ pub(crate) fn call_type(
 pub(crate) fn set_type(
     alloc: Global,
     place: Place,
-    at: Standing,
+    at: Permissions,
     types: &[Option<Ty>],
 ) -> Result<Option<Ty>, NoMemory>
-    ensures { IfOk result (λ o. option_map seen o ≡ (set_step place (standing_seen at) (all_types (map (option_map seen) types.now))).type) }
+    ensures { IfOk result (λ o. option_map seen o ≡ (set_step place (permissions_seen at) (all_types (map (option_map seen) types.now))).type) }
 {
     ended(check_set(alloc, place, at, types))
 }

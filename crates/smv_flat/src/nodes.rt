@@ -5,7 +5,7 @@ ghost use Rattle.smv_text.specs.View.{plain, plain_link};
 ghost use Rattle.smv_meaning.specs.Types.{ExprType, numbers_of};
 ghost use Rattle.smv_meaning.specs.Checks.{all_types};
 ghost use Rattle.smv_intervals.specs.View.{seen};
-ghost use Rattle.smv_types.specs.View.{standing_seen};
+ghost use Rattle.smv_types.specs.View.{permissions_seen};
 ghost use Rattle.smv_types.specs.Steps.{branches_step, set_step};
 ghost use Rattle.smv_flat.specs.FlatTree.{FlatTree, FlatBranches as PlainBranches, FlatTrees as PlainTrees, flat_set, unless_set};
 ghost use Rattle.smv_flat.specs.FlatView.{plain_flat, plain_flat_link, plain_flat_branch, IsNode, IsPrefixNode, IsSelectNode, MakesChain, MakesChoice, IsCasesNode, IsCallNode, AreParts, AreCases, chain_type};
@@ -18,7 +18,7 @@ use crate::node_types::{
 };
 use smv_intervals::Ty;
 use smv_text::{Expr, Function, Infix, Link, Prefix};
-use smv_types::Standing;
+use smv_types::Permissions;
 use smv_types::chains::{are_unions, is_from_right};
 use smv_types::lists::BranchTypes;
 use std::alloc::Global;
@@ -121,12 +121,12 @@ pub fn selected(
 fn chain_type(
     alloc: Global,
     place: Place,
-    at: Standing,
+    at: Permissions,
     first: Option<Ty>,
     links: &[Link],
     types: &[Option<Ty>],
 ) -> Result<Option<Ty>, NoMemory>
-    ensures { IfOk result (λ o. option_map seen o ≡ chain_type (standing_seen at) place (option_map seen first) (links_of (map plain_link links.now)) (map (option_map seen) types.now)) }
+    ensures { IfOk result (λ o. option_map seen o ≡ chain_type (permissions_seen at) place (option_map seen first) (links_of (map plain_link links.now)) (map (option_map seen) types.now)) }
 {
     if is_from_right(links) {
         implies_type(alloc, place, first, types)
@@ -139,12 +139,12 @@ fn chain_type(
 pub fn chained(
     alloc: Global,
     place: Place,
-    at: Standing,
+    at: Permissions,
     first: Typed,
     links: &[Link],
     operands: Operands,
 ) -> Result<Typed, NoMemory>
-    ensures { MakesChain (standing_seen at) place (links_of (map plain_link links.now)) first operands result }
+    ensures { MakesChain (permissions_seen at) place (links_of (map plain_link links.now)) first operands result }
 {
     let ty = chain_type(alloc, place, at, first.ty, links, &operands.types)?;
     let is_set = are_unions(links);
@@ -235,8 +235,13 @@ pub fn called(
 }
 
 /// Returns the node of a set of elements.
-pub fn gathered(alloc: Global, place: Place, at: Standing, parts: Parts) -> Result<Typed, NoMemory>
-    ensures { (es : PlainTrees) (ts : List (Option ExprType)) → AreParts parts es ts → IfOk result (λ x. IsNode x (flat_set None es) (set_step place (standing_seen at) (all_types ts)).type true) }
+pub fn gathered(
+    alloc: Global,
+    place: Place,
+    at: Permissions,
+    parts: Parts,
+) -> Result<Typed, NoMemory>
+    ensures { (es : PlainTrees) (ts : List (Option ExprType)) → AreParts parts es ts → IfOk result (λ x. IsNode x (flat_set None es) (set_step place (permissions_seen at) (all_types ts)).type true) }
 {
     let ty = set_type(alloc, place, at, &parts.types)?;
     let shape = FlatShape::Set(parts.exprs);

@@ -17,7 +17,7 @@ use Rattle.smv_meaning.specs.Phases.{in_state, in_step, in_assignment}
 use Rattle.smv_meaning.specs.Runs.{state_fits, label_fits}
 use Rattle.smv_meaning.specs.Safety.{Safe}
 use Rattle.smv_meaning.specs.Literals.{words_fit}
-use Rattle.smv_meaning.specs.Parts.{IsPart, InTrees, InOne, expressions_in, InElements, InActuals, StandsIn}
+use Rattle.smv_meaning.specs.Parts.{IsPart, InTrees, InOne, expressions_in, InElements, InActuals, OccursIn}
 use Rattle.smv_meaning.specs.Settled.{values_in, types_in}
 use Rattle.smv_meaning.specs.Checked.{IsChecked, all_trees}
 use Rattle.smv_laws.proofs.SafeLaws.{safe}
@@ -40,7 +40,7 @@ FlatFine t now later i at e = FlatSafe (symbol_value (symbols_of t)) now later (
 expression_safe : (t : List Instance) → IsChecked t → IsTrue (all_trees words_fit t) → (state label following other : Valuation)
     → IsTrue (state_fits t state) → IsTrue (label_fits t label) → IsTrue (state_fits t following) → IsTrue (label_fits t other)
     → (now later : Row) → IsRow (flat_of t) state label now → IsRow (flat_of t) following other later
-    → (i : ℕ) (at : Position) (e : Tree) → StandsIn t i e → FlatFine t now later i at e
+    → (i : ℕ) (at : Position) (e : Tree) → OccursIn t i e → FlatFine t now later i at e
 expression_safe t checked words state label following other a b c d now later this then i at e stands =
     ⊎_elim
     (λ typed.
@@ -56,7 +56,7 @@ expression_safe t checked words state label following other a b c d now later th
     same : (row : Row) (s l : Valuation) → IsRow (flat_of t) s l row → (λ x. reads (symbol_value (symbols_of t)) row row (leaf_in t i) false x) ≡ values_in t s l i
     same row s l r = λ j x. row_values t ((cycles_are_checked_law t).0 checked.cycles) s l row r i x j
 
--- ---- what stands in a model
+-- ---- what is in a model
 
 own_part : (e : Tree) → IsPart e e
 own_part (truth p b) = refl
@@ -94,17 +94,17 @@ in_actuals (a ∷ t) (suc n) at e h g = inr (in_actuals t n at e h g)
 
 -- ---- formulas
 
--- each expression that stands in an instance is safe there
+-- each expression that is in an instance is safe there
 abbrev pub AllFine : List Instance → Row → Row → Type 0
-AllFine t now later = (i : ℕ) (at : Position) (e : Tree) → StandsIn t i e → FlatFine t now later i at e
+AllFine t now later = (i : ℕ) (at : Position) (e : Tree) → OccursIn t i e → FlatFine t now later i at e
 
 abbrev pub FormFine : List Instance → Row → Row → Form → Type 0
 FormFine t now later f = FlatSafe (symbol_value (symbols_of t)) now later f.body
 
 abbrev pub ContentStands : List Instance → Content → Type 0
 ContentStands t (variable kind d) = Unit {0}
-ContentStands t (definition j e) = StandsIn t j e
-ContentStands t (actual j e) = StandsIn t j e
+ContentStands t (definition j e) = OccursIn t j e
+ContentStands t (actual j e) = OccursIn t j e
 
 abbrev pub OriginStands : List Instance → Origin → Type 0
 OriginStands t m = ContentStands t m.content
@@ -119,13 +119,13 @@ bodies_fine t now later h k (m ∷ ms) s =
     by (definition j e) g = (h j in_body e g, tt)
     by (actual j e) g = (h j in_body e g, tt)
 
-actuals_stand : (t : List Instance) (i j : ℕ) (qs : List Parameter) (es : Trees) → ((e : Tree) → InTrees e es → StandsIn t j e) → AllByRecursion (OriginStands t) (actual_items i j qs es)
+actuals_stand : (t : List Instance) (i j : ℕ) (qs : List Parameter) (es : Trees) → ((e : Tree) → InTrees e es → OccursIn t j e) → AllByRecursion (OriginStands t) (actual_items i j qs es)
 actuals_stand t i j [] es h = tt
 actuals_stand t i j (q ∷ qs) no_trees h = tt
 actuals_stand t i j (q ∷ qs) (tree e es) h =
     all_on (OriginStands t) (with_content i q.name (actual_content j e)) (actual_items i j qs es) (by e (h e (inl (own_part e)))) (actuals_stand t i j qs es (λ x g. h x (inr g)))
   where
-    by : (e : Tree) → StandsIn t j e → AllByRecursion (OriginStands t) (with_content i q.name (actual_content j e))
+    by : (e : Tree) → OccursIn t j e → AllByRecursion (OriginStands t) (with_content i q.name (actual_content j e))
     by (name p x) g = tt
     by (truth p b) g = (g, tt)
     by (number p n) g = (g, tt)
@@ -151,11 +151,11 @@ variables_stand t i kind (v ∷ items) = all_on (OriginStands t) (variable_item 
     by (bits n) = (tt, tt)
     by (instance m es) = tt
 
-definitions_stand : (t : List Instance) (i : ℕ) (ds : List PlainDefinition) → ((e : Tree) → InOne e (of_definitions ds) → StandsIn t i e) → AllByRecursion (OriginStands t) (map (definition_item i) ds)
+definitions_stand : (t : List Instance) (i : ℕ) (ds : List PlainDefinition) → ((e : Tree) → InOne e (of_definitions ds) → OccursIn t i e) → AllByRecursion (OriginStands t) (map (definition_item i) ds)
 definitions_stand t i [] h = tt
 definitions_stand t i (d ∷ ds) h = (h d.body (inl (own_part d.body)), definitions_stand t i ds (λ e g. h e (inr g)))
 
-element_stands : (t : List Instance) (i : ℕ) (m : PlainElement) → ((e : Tree) → InOne e (expressions_in m) → StandsIn t i e) → AllByRecursion (OriginStands t) (element_items i m)
+element_stands : (t : List Instance) (i : ℕ) (m : PlainElement) → ((e : Tree) → InOne e (expressions_in m) → OccursIn t i e) → AllByRecursion (OriginStands t) (element_items i m)
 element_stands t i (vars kind items) h = variables_stand t i kind items
 element_stands t i (defines ds) h = definitions_stand t i ds h
 element_stands t i (constants cs) h = tt
@@ -165,20 +165,20 @@ element_stands t i (trans e) h = tt
 element_stands t i (invar e) h = tt
 element_stands t i (spec l e) h = tt
 
-elements_stand : (t : List Instance) (i : ℕ) (ms : List PlainElement) → ((e : Tree) → InOne e (flat_map expressions_in ms) → StandsIn t i e)
+elements_stand : (t : List Instance) (i : ℕ) (ms : List PlainElement) → ((e : Tree) → InOne e (flat_map expressions_in ms) → OccursIn t i e)
     → AllByRecursion (OriginStands t) (flat_map (element_items i) ms)
 elements_stand t i [] h = tt
 elements_stand t i (m ∷ ms) h =
     all_on (OriginStands t) (element_items i m) (flat_map (element_items i) ms) (element_stands t i m (λ e g. h e (one_front e (expressions_in m) (flat_map expressions_in ms) g)))
     (elements_stand t i ms (λ e g. h e (one_behind e (expressions_in m) (flat_map expressions_in ms) g)))
 
-assignments_fine : (t : List Instance) (now later : Row) → AllFine t now later → (i : ℕ) (xs : List PlainAssignment) → ((e : Tree) → InOne e (of_assignments xs) → StandsIn t i e)
+assignments_fine : (t : List Instance) (now later : Row) → AllFine t now later → (i : ℕ) (xs : List PlainAssignment) → ((e : Tree) → InOne e (of_assignments xs) → OccursIn t i e)
     → AllByRecursion (FormFine t now later) (map (assignment_form t i) xs)
 assignments_fine t now later h i [] g = tt
 assignments_fine t now later h i (a ∷ xs) g =
     (h i (in_assignment a.when) a.body (g a.body (inl (own_part a.body))), assignments_fine t now later h i xs (λ e k. g e (inr k)))
 
-element_fine : (t : List Instance) (now later : Row) → AllFine t now later → (i : ℕ) (m : PlainElement) → ((e : Tree) → InOne e (expressions_in m) → StandsIn t i e)
+element_fine : (t : List Instance) (now later : Row) → AllFine t now later → (i : ℕ) (m : PlainElement) → ((e : Tree) → InOne e (expressions_in m) → OccursIn t i e)
     → AllByRecursion (FormFine t now later) (element_forms t i m)
 element_fine t now later h i (vars kind items) g = tt
 element_fine t now later h i (defines ds) g = tt
@@ -189,7 +189,7 @@ element_fine t now later h i (trans e) g = (h i in_step e (g e (inl (own_part e)
 element_fine t now later h i (invar e) g = (h i in_state e (g e (inl (own_part e))), tt)
 element_fine t now later h i (spec l e) g = (h i in_state e (g e (inl (own_part e))), tt)
 
-elements_fine : (t : List Instance) (now later : Row) → AllFine t now later → (i : ℕ) (ms : List PlainElement) → ((e : Tree) → InOne e (flat_map expressions_in ms) → StandsIn t i e)
+elements_fine : (t : List Instance) (now later : Row) → AllFine t now later → (i : ℕ) (ms : List PlainElement) → ((e : Tree) → InOne e (flat_map expressions_in ms) → OccursIn t i e)
     → AllByRecursion (FormFine t now later) (flat_map (element_forms t i) ms)
 elements_fine t now later h i [] g = tt
 elements_fine t now later h i (m ∷ ms) g =
@@ -203,7 +203,7 @@ forms_fine t now later h k i [] g = tt
 forms_fine t now later h k i (at ∷ rest) g =
     let zeroed : i + 0 ≡ i = omega arith in
     let there : slice_get t i ≡ Some at = subst (λ n. slice_get t n ≡ Some at) zeroed (g 0 at refl) in
-    let own : (e : Tree) → InOne e (flat_map expressions_in at.module.elements) → StandsIn t i e = λ e s. inl (subst (InElements e) (sym there) s) in
+    let own : (e : Tree) → InOne e (flat_map expressions_in at.module.elements) → OccursIn t i e = λ e s. inl (subst (InElements e) (sym there) s) in
     let P = FormFine t now later in
     let more = k + length (items_here i at) in
     all_on P (forms_here t k i at) (forms_from t more (i + 1) rest)

@@ -37,7 +37,7 @@ abbrev mutual
   FlatSafe symbols now later (flat_set t es) = FlatSafeTrees symbols now later es
   FlatSafe symbols now later (flat_range t low high) = Unit {0}
 
-  -- the operands of a chain that is read from the left, and its fronts, given the value of what stands before
+  -- the operands of a chain that is read from the left, and its fronts, given the value of what is before
   pub FlatSafeLinks : (ℕ → Value) → (ℕ → Value) → (ℕ → Value) → Value → FlatLinks → Type 0
   FlatSafeLinks symbols now later v no_flat_links = Unit {0}
   FlatSafeLinks symbols now later v (flat_link op e ls) =
@@ -56,7 +56,7 @@ abbrev mutual
   FlatSafeTrees symbols now later no_flat_trees = Unit {0}
   FlatSafeTrees symbols now later (flat_tree_then e es) = FlatSafe symbols now later e × FlatSafeTrees symbols now later es
 
--- ---- over values that stand in lists
+-- ---- over values that are in lists
 
 abbrev pub RowSafe : List (List ℕ) → (now later : List Seen) → FlatTree → Type 0
 RowSafe symbols now later e = FlatSafe (symbol_value symbols) (row_values now) (row_values later) e

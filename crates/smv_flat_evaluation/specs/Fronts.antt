@@ -22,7 +22,7 @@ flat_fronts_permit symbols now later u v p (flat_link op e ls) =
 abbrev pub chain_value : (ℕ → Value) → (ℕ → Value) → (ℕ → Value) → Value → FlatLinks → Value
 chain_value symbols now later v ls = if flat_from_right ls then flat_implications symbols now later v ls else flat_fronts_value symbols now later v ls
 
--- the same over values that stand in lists
+-- the same over values that are in lists
 abbrev pub row_chain : List (List ℕ) → (now later : List Seen) → Value → FlatLinks → Value
 row_chain symbols now later v ls = chain_value (symbol_value symbols) (row_values now) (row_values later) v ls
 

@@ -1,4 +1,4 @@
--- Values of items that stand in a list, each at its number.
+-- Values of items that are in a list, each at its number.
 use Rattle.std.specs.Prelude.{ℕ, List, Option, Some, None, slice_get}
 use Rattle.smv_meaning.specs.declared.value.Value.{Value}
 use Rattle.smv_meaning.specs.Values.{no_value}
@@ -20,7 +20,7 @@ row_values row k = seen_or_none (slice_get row k)
 abbrev pub row_denote : List (List ℕ) → (now later : List Seen) → FlatTree → Denotation
 row_denote symbols now later e = flat_denote (symbol_value symbols) (row_values now) (row_values later) e
 
--- what the branches of a choice denote, given what stands behind the last colon
+-- what the branches of a choice denote, given what is behind the last colon
 abbrev pub row_chosen : List (List ℕ) → (now later : List Seen) → FlatBranches → Denotation → Denotation
 row_chosen symbols now later bs d = flat_chosen (symbol_value symbols) (row_values now) (row_values later) bs d
 

@@ -22,14 +22,14 @@ early_checks source =
 abbrev pub typing_checks : List Instance → List Check
 typing_checks t = path_checks_of t ++ cycle_checks_of t ++ type_checks_of t
 
--- all definitions and actuals, in an order in which each stands after those to which it refers, and the types of all names
+-- all definitions and actuals, in an order in which each is after those to which it refers, and the types of all names
 pub record AreFound (t : List Instance) (found : Found) : Type 0 where
   pub bodies : map body_plain found.bodies.items ≡ placed_bodies t
   pub order : IsBodyOrder t found.order
   pub types : AreTypesOf t found.types
 
 -- the same with these instances
-pub record IsKept (t : List Instance) (kept : Accepted) : Type 0 where
+pub record BelongsToInstances (t : List Instance) (kept : Accepted) : Type 0 where
   pub table : map instance_plain kept.table ≡ t
   pub bodies : map body_plain kept.bodies.items ≡ placed_bodies t
   pub order : IsBodyOrder t kept.order

@@ -6,7 +6,7 @@ ghost use Rattle.smv_meaning.specs.Checks.{check};
 ghost use Rattle.smv_meaning.specs.Phases.{checks_of, invariants_in, later_checks, IsAccepted};
 ghost use Rattle.smv_instances.specs.View.{instance_plain};
 ghost use Rattle.smv_names.specs.Outcome.{Settles};
-ghost use Rattle.smv_flatten.specs.Accepting.{early_checks, typing_checks, IsKept, AreFound};
+ghost use Rattle.smv_flatten.specs.Accepting.{early_checks, typing_checks, BelongsToInstances, AreFound};
 
 use crate::kept::Accepted;
 use smv_instances::Table;
@@ -68,7 +68,7 @@ fn found_in<'a>(alloc: Global, table: &Table<'a>) -> Result<Found<'a>, NamesEnd>
 }
 
 fn kept<'a>(table: Table<'a>, found: Found<'a>) -> Accepted<'a>
-    ensures { (t : List Instance) → map instance_plain table.entry ≡ t → AreFound t found.entry → IsKept t result }
+    ensures { (t : List Instance) → map instance_plain table.entry ≡ t → AreFound t found.entry → BelongsToInstances t result }
 {
     Accepted {
         table,
@@ -86,7 +86,7 @@ fn counted<'a>(
     needed: u32,
 ) -> Result<Accepted<'a>, NamesEnd>
     ensures checks { Settles result (check 27 end (nat_lt needed (length (invariants_in (map instance_plain table.entry)))) ∷ []) }
-    ensures kept { (t : List Instance) → map instance_plain table.entry ≡ t → AreFound t found.entry → IfOk result (IsKept t) }
+    ensures kept { (t : List Instance) → map instance_plain table.entry ≡ t → AreFound t found.entry → IfOk result (BelongsToInstances t) }
 {
     match invariants_checked(&table, end, needed) {
         Ok(()) => Ok(kept(table, found)),
@@ -98,7 +98,7 @@ fn counted<'a>(
 #[tactic(auto, using(crate::specs::laws::Composing::ends, crate::specs::laws::Composing::ends_behind, crate::specs::laws::Composing::both_pass))]
 fn joined<'a>(alloc: Global, source: &'a Source, needed: u32) -> Result<Accepted<'a>, NamesEnd>
     ensures checks { Settles result (checks_of (plain_source source.now) needed) }
-    ensures kept { IfOk result (IsKept (instances_of (plain_source source.now))) }
+    ensures kept { IfOk result (BelongsToInstances (instances_of (plain_source source.now))) }
 {
     let table = sized(alloc, source)?;
     match found_in(alloc, &table) {
@@ -118,7 +118,7 @@ pub fn check_model<'a>(
 ) -> Result<Accepted<'a>, NamesEnd>
     ensures checks { Settles result (checks_of (plain_source source.now) needed) }
     ensures passes { IfOk result (λ a. IsAccepted (plain_source source.now) needed) }
-    ensures kept { IfOk result (IsKept (instances_of (plain_source source.now))) }
+    ensures kept { IfOk result (BelongsToInstances (instances_of (plain_source source.now))) }
 {
     match joined(alloc, source, needed) {
         Ok(kept) => Ok(kept),

@@ -145,7 +145,7 @@ asked_died h xs n e = elim (run_ends xs) [
   | inr i ↦ i.1 ∙ ap dead (died_count (expression h xs) i.0 n (expression_dies h xs i.0 i.1) e)
 ]
 
--- what stands before equal backs of equal lists is equal
+-- what is before equal backs of equal lists is equal
 front_same : (ys zs rest : List Token) → ys ++ rest ≡ zs ++ rest → ys ≡ zs
 front_same [] [] rest e = refl
 front_same [] (z ∷ zs) rest e = absurd (let f : length rest ≡ length (z ∷ (zs ++ rest)) = ap length e in omega (arith, length-append zs rest))

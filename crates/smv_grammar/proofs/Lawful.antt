@@ -76,7 +76,7 @@ behind_front front x back [] ys e le = (front, sym e)
 behind_front [] x back (t ∷ ts) ys e le = absurd (let f : length (x ∷ back) ≡ length (t ∷ (ts ++ ys)) = ap length e in omega (arith, length-append ts ys))
 behind_front (f ∷ fs) x back (t ∷ ts) ys e le = behind_front fs x back ts ys (cc) le
 
--- what stands behind equal fronts of equal lists is equal
+-- what is behind equal fronts of equal lists is equal
 pub same_back : (front left back other : List Token) → front ≡ left → front ++ back ≡ left ++ other → back ≡ other
 same_back front left back other e f = cut front back other (f ∙ ap (λ z. z ++ other) (sym e))
   where
@@ -84,7 +84,7 @@ same_back front left back other e f = cut front back other (f ∙ ap (λ z. z ++
     cut [] back other e = e
     cut (x ∷ front) back other e = cut front back other (cc)
 
--- one list ends like another, whatever stands behind
+-- one list ends like another, whatever is behind
 pub same_front : (front left : List Token) (x : Token) (back other : List Token) → front ++ x ∷ back ≡ left ++ x ∷ back → front ++ x ∷ other ≡ left ++ x ∷ other
 same_front [] [] x back other e = refl
 same_front [] (l ∷ ls) x back other e = absurd (let f : length (x ∷ back) ≡ length (l ∷ (ls ++ x ∷ back)) = ap length e in omega (arith, length-append ls (x ∷ back)))

@@ -34,7 +34,7 @@ use Rattle.smv_grammar.proofs.Lists.{Behind, behind_law, NotOpen}
 abbrev pub Named : {A : Type 0} → (List ℕ → Place → A → List Token → Type 0) → TokenKind → Place → A → List Token → Type 0
 Named Q k p v ys = (n : List ℕ) × (k ≡ kind.Ident n) × Q n p v ys
 
--- what stands behind an identifier and what may, where nothing else may stand
+-- what is behind an identifier and what may, where nothing else may stand
 pub named_law : {A : Type 0} (pick : Pick A) (Q : List ℕ → Place → A → List Token → Type 0) (of : A → List Tree) (stops : List Token → Type 0) (r : List ℕ → Place → Reader A)
     → ((n : List ℕ) (p : Place) → Lawful (r n p) (Q n p) of stops)
     → (k : TokenKind) (p : Place) → ((n : List ℕ) → k ≡ kind.Ident n → pick k p ≡ Some (r n p)) → (((n : List ℕ) → k ≡ kind.Ident n → ⊥) → pick k p ≡ None)

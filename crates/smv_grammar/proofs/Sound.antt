@@ -61,7 +61,7 @@ start_or (x ∷ xs) s = x.place
 abbrev pub Chains : OperatorClass → List Level → Chained → List Token → Type 0
 Chains j below c xs = (ys : List Token) × (zs : List Token) × (xs ≡ ys ++ zs) × Spells below c.first ys × LinksBefore j below c.links zs
 
--- The frames wait for an expression at these levels, whose first token stands at this place, and these tokens led to them.
+-- The frames wait for an expression at these levels, whose first token is at this place, and these tokens led to them.
 abbrev pub Waits : List Frame → List Level → List Token → Place → Type 0
 Waits [] ls q s = Lifts ls all_levels × (q ≡ [])
 Waits (operand j below p bare ∷ k) ls q s = Lifts ls below × (p ≡ s) × Waits k (Chain j ∷ below) q s

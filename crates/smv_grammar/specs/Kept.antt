@@ -9,7 +9,7 @@ pub record Read : Type 0 where
   pub tree : Tree
   pub height : ℕ
 
--- An expression that is too high is not kept, so that nothing nests deeper than the limit: a leaf stands at its place, with
+-- An expression that is too high is not kept, so that nothing nests deeper than the limit: a leaf is at its place, with
 -- a height that still tells.
 abbrev pub kept : Tree → ℕ → Read
 kept t n = if nat_le n most_height then record { tree = t; height = n } else record { tree = truth (place_of t) true; height = suc most_height }

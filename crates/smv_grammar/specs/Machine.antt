@@ -37,7 +37,7 @@ pub record Chained : Type 0 where
   pub first : Tree
   pub links : List (Infix × Tree)
 
--- what stands before an operand of a chain
+-- what is before an operand of a chain
 pub data Front : Type 0 where
   bare : Front
   joined : Chained → Infix → Front
@@ -83,7 +83,7 @@ pub data State : Type 0 where
   low_close : Place → Tree → ℕ → ℕ → List Frame → State
   case_goes : Place → List (Tree × Tree) → List Frame → State  -- a condition, or the end of the cases
 
--- what a token is: part of the expression, what stands behind it, or neither
+-- what a token is: part of the expression, what is behind it, or neither
 pub data Move : Type 0 where
   onto : State → Move
   behind : Tree → Move

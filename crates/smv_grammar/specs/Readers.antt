@@ -48,7 +48,7 @@ both r s h xs = and_then (r h xs) (λ a g ys. and_then (s g ys) (λ b k zs. foun
 unfoldable pub mapped : {A B : Type 0} → (A → B) → Reader A → Reader B
 mapped f r h xs = and_then (r h xs) (λ a g ys. found (f a) g ys)
 
--- what stands behind a token of a kind, where the token may stand
+-- what is behind a token of a kind, where the token may stand
 abbrev pub Pick : Type 0 → Type 0
 Pick A = TokenKind → Place → Option (Reader A)
 

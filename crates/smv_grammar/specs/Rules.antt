@@ -44,7 +44,7 @@ name = one name_of
 abbrev pub number : Reader (ℕ × Place)
 number = one number_of
 
--- what stands behind this sign
+-- what is behind this sign
 abbrev pub behind : {A : Type 0} → Sign → Reader A → Pick A
 behind s r k p = cond (is_sign s k) (Some r) None
 
@@ -52,7 +52,7 @@ behind s r k p = cond (is_sign s k) (Some r) None
 unfoldable pub listed : {A : Type 0} → Reader A → Sign → Reader (List A)
 listed r s = mapped (λ q. q.0 ∷ q.1.0) (both r (both (many (behind signs.Comma r)) (sign s)))
 
--- none, or what stands in round brackets
+-- none, or what is in round brackets
 unfoldable pub bracketed : {A : Type 0} → Reader A → Reader (List A)
 bracketed r = either (behind signs.Open (either (behind signs.Close (nothing [])) (listed r signs.Close))) (nothing [])
 

@@ -2,7 +2,7 @@
 
 use smv_text::Function;
 
-/// The kind of list that stands between brackets.
+/// The kind of list that is between brackets.
 #[derive(Clone, Copy)]
 pub enum Listing {
     /// The arguments of a function.

@@ -17,7 +17,7 @@ use Rattle.smv_instances.specs.declared.instances.Instance.{Instance as PartOf}
 use Rattle.smv_instances.specs.declared.names.Known.{Known}
 use Rattle.smv_meaning.specs.Names.{Local, nothing, among_parameters}
 use Rattle.name_maps.specs.declared.instance_rows.InstanceRows.{InstanceRows}
-use Rattle.smv_instances.specs.NameMap.{known_at, kept_in, kept}
+use Rattle.smv_instances.specs.NameMap.{known_at, stored_in, kept}
 use Rattle.smv_instances.specs.View.{instance_plain}
 
 -- past the last parameter or the last actual there is none
@@ -40,7 +40,7 @@ got_last xs y k h = slice_get-get_or (xs ++ y ∷ []) k y (omega (arith, h, leng
 -- the names of one instance more
 pub knows_more : (ts : List PartOf) (i n : ℕ) (p : PartOf) (m more : InstanceRows Known) → n ≡ length ts → i < n → p ≡ slice_index_or ts i p
     → ((j : ℕ) (x : List ℕ) → known_at m j x ≡ kept (map instance_plain (take i ts)) j x)
-    → ((j : ℕ) (x : List ℕ) → known_at more j x ≡ (if i == j then kept_in i x (Some (instance_plain p)) else known_at m j x))
+    → ((j : ℕ) (x : List ℕ) → known_at more j x ≡ (if i == j then stored_in i x (Some (instance_plain p)) else known_at m j x))
     → (j : ℕ) (x : List ℕ) → known_at more j x ≡ kept (map instance_plain (take (i + 1) ts)) j x
 knows_more ts i n p m more en h is f w j x = w j x ∙ by (i == j) refl ∙ ap (λ l. kept l j x) (sym whole)
   where
@@ -50,11 +50,11 @@ knows_more ts i n p m more en h is f w j x = w j x ∙ by (i == j) refl ∙ ap (
     count : length (map instance_plain (take i ts)) ≡ i
     count = length-map (take i ts) instance_plain ∙ length-take-le i ts (omega (arith, en, h))
 
-    by : (c : Bool) → (i == j) ≡ c → (if c then kept_in i x (Some (instance_plain p)) else known_at m j x) ≡ kept (map instance_plain (take i ts) ++ instance_plain p ∷ []) j x
+    by : (c : Bool) → (i == j) ≡ c → (if c then stored_in i x (Some (instance_plain p)) else known_at m j x) ≡ kept (map instance_plain (take i ts) ++ instance_plain p ∷ []) j x
     by true q =
         let s : i ≡ j = eqb-true i j q in
-        ap (kept_in i x) (sym (got_last (map instance_plain (take i ts)) (instance_plain p) i count)) ∙ ap (λ k. kept (map instance_plain (take i ts) ++ instance_plain p ∷ []) k x) s
-    by false q = f j x ∙ ap (kept_in j x) (sym (⊎_elim below above (cases_lt j i)))
+        ap (stored_in i x) (sym (got_last (map instance_plain (take i ts)) (instance_plain p) i count)) ∙ ap (λ k. kept (map instance_plain (take i ts) ++ instance_plain p ∷ []) k x) s
+    by false q = f j x ∙ ap (stored_in j x) (sym (⊎_elim below above (cases_lt j i)))
       where
         below : j < i → slice_get (map instance_plain (take i ts) ++ instance_plain p ∷ []) j ≡ slice_get (map instance_plain (take i ts)) j
         below b = got_before (map instance_plain (take i ts)) (instance_plain p) j (omega (arith, b, count))
@@ -66,7 +66,7 @@ knows_more ts i n p m more en h is f w j x = w j x ∙ by (i == j) refl ∙ ap (
 
 -- of the next instance no names are known yet
 pub not_yet : (ts : List PartOf) (i n : ℕ) (m : InstanceRows Known) → n ≡ length ts → i < n → ((j : ℕ) (x : List ℕ) → known_at m j x ≡ kept (map instance_plain (take i ts)) j x) → (x : List ℕ) → known_at m i x ≡ nothing
-not_yet ts i n m en h f x = f i x ∙ ap (kept_in i x) (slice_get_past (map instance_plain (take i ts)) i (omega (arith, length-map (take i ts) instance_plain, length-take-le i ts (omega (arith, en, h)))))
+not_yet ts i n m en h f x = f i x ∙ ap (stored_in i x) (slice_get_past (map instance_plain (take i ts)) i (omega (arith, length-map (take i ts) instance_plain, length-take-le i ts (omega (arith, en, h)))))
 
 pub knows_all : (ts : List PartOf) (i n : ℕ) (m : InstanceRows Known) → n ≡ length ts → n ≤ i → ((j : ℕ) (x : List ℕ) → known_at m j x ≡ kept (map instance_plain (take i ts)) j x) → (j : ℕ) (x : List ℕ) → known_at m j x ≡ kept (map instance_plain ts) j x
 knows_all ts i n m en h f j x = f j x ∙ ap (λ l. kept (map instance_plain l) j x) (take_all i ts (omega (arith, en, h)))

@@ -8,7 +8,7 @@ use Rattle.smv_instances.specs.View.{instance_plain}
 use Rattle.smv_meaning.specs.laws.Lists.{front_is}
 use Rattle.std.proofs.lemmas.List.Sums.{sum_by-cons}
 use Rattle.smv_text.specs.View.{plain_module}
-use Rattle.smv_instances.specs.NameCounts.{names_of, kept_names_of}
+use Rattle.smv_instances.specs.NameCounts.{names_of, stored_names_of}
 use Rattle.smv_instances.specs.laws.NameLemmas.{steps_front}
 
 -- the definitions and actuals from an instance on
@@ -23,7 +23,7 @@ names_on ts i p h is =
     ap (λ l. sum_by (λ at. names_of at.«module») (map instance_plain l)) (front_is ts i (length ts) p refl h is) ∙ sum_by-cons (λ at. names_of at.«module») (instance_plain p) (map instance_plain (drop (i + 1) ts))
 
 -- the names of an instance that have rows and those of the later ones
-pub kept_names_on : (ts : List PartOf) (i : ℕ) (p : PartOf) → i < length ts → p ≡ slice_index_or ts i p
-    → sum_by (λ at. kept_names_of at.«module») (map instance_plain (drop i ts)) ≡ kept_names_of (plain_module p.module.now) + sum_by (λ at. kept_names_of at.«module») (map instance_plain (drop (i + 1) ts))
-kept_names_on ts i p h is =
-    ap (λ l. sum_by (λ at. kept_names_of at.«module») (map instance_plain l)) (front_is ts i (length ts) p refl h is) ∙ sum_by-cons (λ at. kept_names_of at.«module») (instance_plain p) (map instance_plain (drop (i + 1) ts))
+pub stored_names_on : (ts : List PartOf) (i : ℕ) (p : PartOf) → i < length ts → p ≡ slice_index_or ts i p
+    → sum_by (λ at. stored_names_of at.«module») (map instance_plain (drop i ts)) ≡ stored_names_of (plain_module p.module.now) + sum_by (λ at. stored_names_of at.«module») (map instance_plain (drop (i + 1) ts))
+stored_names_on ts i p h is =
+    ap (λ l. sum_by (λ at. stored_names_of at.«module») (map instance_plain l)) (front_is ts i (length ts) p refl h is) ∙ sum_by-cons (λ at. stored_names_of at.«module») (instance_plain p) (map instance_plain (drop (i + 1) ts))

@@ -1,4 +1,4 @@
--- Where aliases lead, each found once: how deep the aliases on its way lead into one another, and what stands at the end.
+-- Where aliases lead, each found once: how deep the aliases on its way lead into one another, and what is at the end.
 use Rattle.std.specs.Prelude.{◌≡◌, ◌≤◌, ℕ, suc, ◌+◌, ◌==◌, ◌&&◌, nat_lt, Bool, true, false, not, List, [], ◌∷◌, if◌then◌else◌, Option, Some, None, is_some, bytes_eq}
 use Rattle.std.specs.List.{list_any}
 use Rattle.smv_text.specs.declared.tree.Path.{Path}

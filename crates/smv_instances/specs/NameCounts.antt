@@ -13,5 +13,5 @@ abbrev pub names_of : PlainModule → ℕ
 names_of m = length m.parameters + sum_by names_of_element m.elements
 
 -- those that have rows
-abbrev pub kept_names_of : PlainModule → ℕ
-kept_names_of m = if is_small m then 0 else names_of m
+abbrev pub stored_names_of : PlainModule → ℕ
+stored_names_of m = if is_small m then 0 else names_of m

@@ -36,12 +36,12 @@ abbrev pub is_small : PlainModule → Bool
 is_small m = nat_le m.tokens 40 && nat_le (length m.parameters) 8
 
 -- what a name of an instance is by its rows, which one of a small module doesn't have
-abbrev pub kept_in : ℕ → List ℕ → Option Instance → Local
-kept_in i x None = nothing
-kept_in i x (Some at) = if is_small at.«module» then nothing else local_in i x (Some at)
+abbrev pub stored_in : ℕ → List ℕ → Option Instance → Local
+stored_in i x None = nothing
+stored_in i x (Some at) = if is_small at.«module» then nothing else local_in i x (Some at)
 
 abbrev pub kept : List Instance → ℕ → List ℕ → Local
-kept t i x = kept_in i x (slice_get t i)
+kept t i x = stored_in i x (slice_get t i)
 
 -- what the names are of all instances that have rows
 abbrev pub Knows : List PartOf → InstanceRows Known → Type 0

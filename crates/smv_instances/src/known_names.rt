@@ -3,8 +3,8 @@ ghost use Rattle.std.specs.Prelude.{◌≡◌, ◌==◌, ◌-◌, ◌^◌, min, 
 ghost use Rattle.smv_text.specs.Tree.{trees_of};
 ghost use Rattle.smv_text.specs.View.{plain, plain_item, plain_definition, plain_element, plain_module};
 ghost use Rattle.smv_meaning.specs.Names.{nothing, among_items, among_definitions, among_elements, among_parameters};
-ghost use Rattle.smv_instances.specs.NameCounts.{names_of, kept_names_of};
-ghost use Rattle.smv_instances.specs.NameMap.{Knows, known_at, kept_in};
+ghost use Rattle.smv_instances.specs.NameCounts.{names_of, stored_names_of};
+ghost use Rattle.smv_instances.specs.NameMap.{Knows, known_at, stored_in};
 ghost use Rattle.smv_instances.specs.View.{instance_plain};
 
 use crate::instances::Instance;
@@ -122,7 +122,7 @@ fn put_instance<'a>(
     part: &Instance<'a>,
 ) -> Result<(), NoMemory>
     requires { (x : List ℕ) → known_at known.old i x ≡ nothing }
-    ensures { OnOk result ((j : ℕ) (x : List ℕ) → known_at known.new j x ≡ (if i == j then kept_in i x (Some (instance_plain part.now)) else known_at known.old j x)) }
+    ensures { OnOk result ((j : ℕ) (x : List ℕ) → known_at known.new j x ≡ (if i == j then stored_in i x (Some (instance_plain part.now)) else known_at known.old j x)) }
 {
     let module = part.module;
     if is_small(module) {
@@ -152,8 +152,8 @@ pub fn names_in_all<'a>(table: &[Instance<'a>]) -> usize
 }
 
 // The number of names of a module that have rows, saturated at `usize::MAX`.
-fn kept_names_in(module: &Module) -> usize
-    ensures { result ≡ min (kept_names_of (plain_module «module».now)) (2 ^ 64 - 1) }
+fn stored_names_in(module: &Module) -> usize
+    ensures { result ≡ min (stored_names_of (plain_module «module».now)) (2 ^ 64 - 1) }
 {
     if is_small(module) {
         0
@@ -163,13 +163,13 @@ fn kept_names_in(module: &Module) -> usize
 }
 
 // The number of names that have rows, saturated at `usize::MAX`.
-#[tactic(auto, using(crate::proofs::TableLemmas::kept_names_on))]
-fn kept_names_in_all<'a>(table: &[Instance<'a>]) -> usize
-    ensures { result ≡ min (sum_by (λ at. kept_names_of at.«module») (map instance_plain table.now)) (2 ^ 64 - 1) }
+#[tactic(auto, using(crate::proofs::TableLemmas::stored_names_on))]
+fn stored_names_in_all<'a>(table: &[Instance<'a>]) -> usize
+    ensures { result ≡ min (sum_by (λ at. stored_names_of at.«module») (map instance_plain table.now)) (2 ^ 64 - 1) }
 {
     let mut count: usize = 0;
     for part in table {
-        count = count.saturating_add(kept_names_in(part.module));
+        count = count.saturating_add(stored_names_in(part.module));
     }
     count
 }
@@ -179,7 +179,7 @@ fn kept_names_in_all<'a>(table: &[Instance<'a>]) -> usize
 pub fn known_in_all<'a>(alloc: Global, table: &[Instance<'a>]) -> Result<KnownNames<'a>, NoMemory>
     ensures { IfOk result (Knows table.now) }
 {
-    let mut known = no_rows_in(alloc, kept_names_in_all(table))?;
+    let mut known = no_rows_in(alloc, stored_names_in_all(table))?;
     for i in 0..table.len() {
         put_instance(&mut known, i, &table[i])?;
     }

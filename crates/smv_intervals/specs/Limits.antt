@@ -5,6 +5,6 @@ use Rattle.smv_intervals.specs.declared.types.Ty.{Ty}
 use Rattle.smv_intervals.specs.View.{seen}
 
 -- the type, where it is within the limit of integers
-abbrev pub Kept : Option Ty → ExprType → Type 0
-Kept (Some ty) t = (in_limit t ≡ true) × (seen ty ≡ t)
-Kept None t = in_limit t ≡ false
+abbrev pub FitsLimit : Option Ty → ExprType → Type 0
+FitsLimit (Some ty) t = (in_limit t ≡ true) × (seen ty ≡ t)
+FitsLimit None t = in_limit t ≡ false

@@ -4,7 +4,7 @@ ghost use Rattle.std.specs.Int.{int_min, int_max};
 ghost use Rattle.smv_meaning.specs.Operators.{int_abs};
 ghost use Rattle.smv_meaning.specs.Types.{integer_type, hull, over_ends, over_both_ends, abs_type, quotient_type, rest_type, rest_low, rest_high};
 ghost use Rattle.smv_intervals.specs.View.{seen};
-ghost use Rattle.smv_intervals.specs.Limits.{Kept};
+ghost use Rattle.smv_intervals.specs.Limits.{FitsLimit};
 
 use crate::types::Ty;
 
@@ -16,7 +16,7 @@ const GREATEST: i64 = 4_611_686_018_427_387_903;
 
 /// Returns the integer type with these bounds, or None where they exceed the limit.
 pub fn interval_within_limit(low: i64, high: i64) -> Option<Ty>
-    ensures { Kept result (integer_type low high) }
+    ensures { FitsLimit result (integer_type low high) }
 {
     if LEAST <= low && high <= GREATEST {
         Some(Ty::Integer(low, high))
@@ -30,7 +30,7 @@ pub fn interval_within_limit(low: i64, high: i64) -> Option<Ty>
 /// The bounds have 128 bits and must be in order.
 pub fn ordered_interval(low: i128, high: i128) -> Option<Ty>
     requires { low ≤ℤ high }
-    ensures { Kept result (integer_type low high) }
+    ensures { FitsLimit result (integer_type low high) }
 {
     if LEAST as i128 <= low && high <= GREATEST as i128 {
         Some(Ty::Integer(low as i64, high as i64))
@@ -41,7 +41,7 @@ pub fn ordered_interval(low: i128, high: i128) -> Option<Ty>
 
 // The interval from the lesser to the greater of two results.
 fn over_two(a: i128, b: i128) -> Option<Ty>
-    ensures { Kept result (integer_type (int_min a b) (int_max a b)) }
+    ensures { FitsLimit result (integer_type (int_min a b) (int_max a b)) }
 {
     ordered_interval(a.min(b), a.max(b))
 }
@@ -64,14 +64,14 @@ fn greatest(a: i128, b: i128, c: i128, d: i128) -> i128
 
 // The interval from the least to the greatest of four results.
 fn over_four(a: i128, b: i128, c: i128, d: i128) -> Option<Ty>
-    ensures { Kept result (integer_type (int_min (int_min a b) (int_min c d)) (int_max (int_max a b) (int_max c d))) }
+    ensures { FitsLimit result (integer_type (int_min (int_min a b) (int_min c d)) (int_max (int_max a b) (int_max c d))) }
 {
     ordered_interval(least(a, b, c, d), greatest(a, b, c, d))
 }
 
 /// Returns the type unchanged, or None where its interval exceeds the limit.
 pub fn type_within_limit(t: Ty) -> Option<Ty>
-    ensures { Kept result (seen t) }
+    ensures { FitsLimit result (seen t) }
 {
     match t {
         Ty::Integer(low, high) => interval_within_limit(low, high),
@@ -138,7 +138,7 @@ fn smaller(a: i64, b: i64) -> i128
 
 /// Returns the type of `+`, or None where its interval exceeds the limit.
 pub fn sum_type(t: Ty, u: Ty) -> Option<Ty>
-    ensures { Kept result (over_both_ends (λ a b. a +ℤ b) (seen t) (seen u)) }
+    ensures { FitsLimit result (over_both_ends (λ a b. a +ℤ b) (seen t) (seen u)) }
 {
     match t {
         Ty::Integer(low, high) => match u {
@@ -156,7 +156,7 @@ pub fn sum_type(t: Ty, u: Ty) -> Option<Ty>
 
 /// Returns the type of binary `-`, or None where its interval exceeds the limit.
 pub fn difference_type(t: Ty, u: Ty) -> Option<Ty>
-    ensures { Kept result (over_both_ends (λ a b. a -ℤ b) (seen t) (seen u)) }
+    ensures { FitsLimit result (over_both_ends (λ a b. a -ℤ b) (seen t) (seen u)) }
 {
     match t {
         Ty::Integer(low, high) => match u {
@@ -174,7 +174,7 @@ pub fn difference_type(t: Ty, u: Ty) -> Option<Ty>
 
 /// Returns the type of `*`, or None where its interval exceeds the limit.
 pub fn product_type(t: Ty, u: Ty) -> Option<Ty>
-    ensures { Kept result (over_both_ends (λ a b. a *ℤ b) (seen t) (seen u)) }
+    ensures { FitsLimit result (over_both_ends (λ a b. a *ℤ b) (seen t) (seen u)) }
 {
     match t {
         Ty::Integer(low, high) => match u {
@@ -192,7 +192,7 @@ pub fn product_type(t: Ty, u: Ty) -> Option<Ty>
 
 /// Returns the type of `max`, or None where its interval exceeds the limit.
 pub fn max_type(t: Ty, u: Ty) -> Option<Ty>
-    ensures { Kept result (over_both_ends int_max (seen t) (seen u)) }
+    ensures { FitsLimit result (over_both_ends int_max (seen t) (seen u)) }
 {
     match t {
         Ty::Integer(low, high) => match u {
@@ -210,7 +210,7 @@ pub fn max_type(t: Ty, u: Ty) -> Option<Ty>
 
 /// Returns the type of `min`, or None where its interval exceeds the limit.
 pub fn min_type(t: Ty, u: Ty) -> Option<Ty>
-    ensures { Kept result (over_both_ends int_min (seen t) (seen u)) }
+    ensures { FitsLimit result (over_both_ends int_min (seen t) (seen u)) }
 {
     match t {
         Ty::Integer(low, high) => match u {
@@ -228,7 +228,7 @@ pub fn min_type(t: Ty, u: Ty) -> Option<Ty>
 
 /// Returns the type of unary `-`, or None where its interval exceeds the limit.
 pub fn negation_type(t: Ty) -> Option<Ty>
-    ensures { Kept result (over_ends neg_ℤ (seen t)) }
+    ensures { FitsLimit result (over_ends neg_ℤ (seen t)) }
 {
     match t {
         Ty::Integer(low, high) => over_two(negated(low), negated(high)),
@@ -240,7 +240,7 @@ pub fn negation_type(t: Ty) -> Option<Ty>
 ///
 /// For an interval with 0 inside, the least absolute value is 0.
 pub fn abs_type(t: Ty) -> Option<Ty>
-    ensures { Kept result (abs_type (seen t)) }
+    ensures { FitsLimit result (abs_type (seen t)) }
 {
     match t {
         Ty::Integer(low, high) => {
@@ -265,7 +265,7 @@ fn quotient(a: i64, b: i128) -> i128
 ///
 /// `divisor` is the integer value of the right operand.
 pub fn quotient_type(t: Ty, divisor: Option<i128>) -> Option<Ty>
-    ensures { Kept result (quotient_type (seen t) divisor) }
+    ensures { FitsLimit result (quotient_type (seen t) divisor) }
 {
     match divisor {
         None => type_within_limit(t),
@@ -307,7 +307,7 @@ fn highest_rest(high: i64, size: u128) -> i64
 ///
 /// `divisor` is the integer value of the right operand.
 pub fn rest_type(t: Ty, divisor: Option<i128>) -> Option<Ty>
-    ensures { Kept result (rest_type (seen t) divisor) }
+    ensures { FitsLimit result (rest_type (seen t) divisor) }
 {
     match divisor {
         None => type_within_limit(t),

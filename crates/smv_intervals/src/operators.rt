@@ -2,7 +2,7 @@
 ghost use Rattle.std.specs.Prelude.{◌≡◌, true};
 ghost use Rattle.smv_meaning.specs.Types.{infix_type_by, joins};
 ghost use Rattle.smv_intervals.specs.View.{seen};
-ghost use Rattle.smv_intervals.specs.Limits.{Kept};
+ghost use Rattle.smv_intervals.specs.Limits.{FitsLimit};
 
 use crate::intervals::{
     difference_type, hull, product_type, quotient_type, rest_type, sum_type, type_within_limit,
@@ -17,7 +17,7 @@ use smv_text::Infix;
 #[inline(always)]
 pub fn infix_type(op: Infix, t: Ty, u: Ty, divisor: Option<i128>) -> Option<Ty>
     requires { joins op (seen t) (seen u) ≡ true }
-    ensures { Kept result (infix_type_by op (seen t) (seen u) divisor) }
+    ensures { FitsLimit result (infix_type_by op (seen t) (seen u) divisor) }
 {
     match op {
         Infix::Equal

@@ -18,7 +18,7 @@ use Rattle.name_maps.specs.declared.instance_rows.InstanceRows.{InstanceRows}
 use Rattle.name_maps.specs.declared.rows.NameRows.{NameRows}
 use Rattle.name_maps.specs.Rows.{row_named, row_in}
 use Rattle.smv_instances.specs.laws.ChildLemmas.{position_push}
-use Rattle.smv_items.specs.declared.origins.Origin.{Origin as KeptOrigin}
+use Rattle.smv_items.specs.declared.origins.Origin.{Origin as StoredOrigin}
 use Rattle.smv_items.specs.declared.numbers.ItemNumbers.{ItemNumbers}
 use Rattle.smv_items.specs.declared.numbers.PathNumbers.{PathNumbers}
 use Rattle.smv_items.specs.declared.numbers.VariableNumber.{VariableNumber}
@@ -49,22 +49,22 @@ map_map g f [] = refl
 map_map g f (x ∷ xs) = ap (λ ys. g (f x) ∷ ys) (map_map g f xs)
 
 -- the dotted path of an item
-path_at : (t : List Instance) (xs : List KeptOrigin) (paths : List (List ℕ)) (k : ℕ) (o : KeptOrigin) (p : List ℕ) → paths ≡ map (path_of t) (map origin_plain xs) → k < length xs → o ≡ get_or xs k o → p ≡ get_or paths k p
+path_at : (t : List Instance) (xs : List StoredOrigin) (paths : List (List ℕ)) (k : ℕ) (o : StoredOrigin) (p : List ℕ) → paths ≡ map (path_of t) (map origin_plain xs) → k < length xs → o ≡ get_or xs k o → p ≡ get_or paths k p
     → p ≡ path_of t (origin_plain o)
 path_at t xs paths k o p e h a g = path_there (λ m. path_of t (origin_plain m)) xs paths k o p (e ∙ map_map (path_of t) origin_plain xs) h a g
 
 -- all items
-pub all_noted : (t : List Instance) (xs : List KeptOrigin) (k : ℕ) (ns : ItemNumbers) → length xs ≤ k → AreNumbers t (map origin_plain (take k xs)) ns → AreNumbers t (map origin_plain xs) ns
+pub all_noted : (t : List Instance) (xs : List StoredOrigin) (k : ℕ) (ns : ItemNumbers) → length xs ≤ k → AreNumbers t (map origin_plain (take k xs)) ns → AreNumbers t (map origin_plain xs) ns
 all_noted t xs k ns h w = subst (λ l. AreNumbers t (map origin_plain l) ns) (take_all k xs h) w
 
-variable_noted : (t : List Instance) (kind : VarKind) (xs : List KeptOrigin) (k : ℕ) (o : KeptOrigin) (p : List ℕ) (old new : NameRows ℕ) → k < length xs → o ≡ slice_index_or xs k o → p ≡ path_of t (origin_plain o)
+variable_noted : (t : List Instance) (kind : VarKind) (xs : List StoredOrigin) (k : ℕ) (o : StoredOrigin) (p : List ℕ) (old new : NameRows ℕ) → k < length xs → o ≡ slice_index_or xs k o → p ≡ path_of t (origin_plain o)
     → IsNoted (is_variable_as kind (content_plain o.content)) p k old new → AreVariables t kind (map origin_plain (take k xs)) old → AreVariables t kind (map origin_plain (take (k + 1) xs)) new
 variable_noted t kind xs k o p old new h a f n w x =
     with_item origin_plain (λ m. is_variable_as kind m.content && bytes_eq (path_of t m) x) xs k (length xs) o (row_named old x) (row_named new x) refl h a (w x)
     (n x ∙ ap (λ z. if is_none (row_named old x) && (is_variable_as kind (content_plain o.content) && bytes_eq z x) then Some k else row_named old x) f)
 
 -- one item more
-pub item_noted : (t : List Instance) (xs : List KeptOrigin) (paths : List (List ℕ)) (k : ℕ) (o : KeptOrigin) (p q : List ℕ) (old new : ItemNumbers) → paths ≡ map (path_of t) (map origin_plain xs) → k < length xs
+pub item_noted : (t : List Instance) (xs : List StoredOrigin) (paths : List (List ℕ)) (k : ℕ) (o : StoredOrigin) (p q : List ℕ) (old new : ItemNumbers) → paths ≡ map (path_of t) (map origin_plain xs) → k < length xs
     → o ≡ get_or xs k o → p ≡ get_or paths k p → q ≡ p → IsItemNoted (origin_plain o) q k old new → AreNumbers t (map origin_plain (take k xs)) old → AreNumbers t (map origin_plain (take (k + 1) xs)) new
 item_noted t xs paths k o p q old new e h a g i n w =
     let f : q ≡ path_of t (origin_plain o) = i ∙ path_at t xs paths k o p e h a g in
@@ -128,7 +128,7 @@ kept_on t is_input p k old new n m w true i x =
     noted_on (row_named old.inputs y) (row_named new.inputs y) (number_kept true (row_in m i x)) (is_input && bytes_eq p y) k (n.inputs y) (w true i x)
 
 -- a variable is noted
-pub number_kept_more : (t : List Instance) (old new : PathNumbers) (was now : InstanceRows VariableNumber) (o : KeptOrigin) (p : List ℕ) (b : Bool) (k n : ℕ) (v : VariableNumber) → p ≡ path_of t (origin_plain o)
+pub number_kept_more : (t : List Instance) (old new : PathNumbers) (was now : InstanceRows VariableNumber) (o : StoredOrigin) (p : List ℕ) (b : Bool) (k n : ℕ) (v : VariableNumber) → p ≡ path_of t (origin_plain o)
     → ArePathsNoted b p k old new → path_number new b p ≡ Some n → v ≡ number_as b n → AreInstanceNumbers t old was
     → ((j : ℕ) (y : List ℕ) → row_in now j y ≡ (if o.instance == j && bytes_eq o.name.now y then Some v else row_in was j y)) → AreInstanceNumbers t new now
 number_kept_more t old new was now o p b k n v ep noted en ev h w =

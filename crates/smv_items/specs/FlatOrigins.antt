@@ -6,7 +6,7 @@ use Rattle.smv_meaning.specs.Instances.{Instance}
 use Rattle.smv_meaning.specs.Names.{dotted_at}
 use Rattle.smv_items.specs.declared.origins.Content.{Content as Kept}
 use Rattle.smv_items.specs.declared.origins.Content.TheVariants as OfContent
-use Rattle.smv_items.specs.declared.origins.Origin.{Origin as KeptOrigin}
+use Rattle.smv_items.specs.declared.origins.Origin.{Origin as StoredOrigin}
 use Rattle.smv_text.specs.declared.tree.VarKind.{VarKind}
 use Rattle.smv_text.specs.declared.tree.VarKind.TheVariants as OfVarKind
 use Rattle.name_maps.specs.declared.rows.NameRows.{NameRows}
@@ -29,7 +29,7 @@ abbrev pub content_or_none : Option Kept → Option Content
 content_or_none None = None
 content_or_none (Some c) = Some (content_plain c)
 
-abbrev pub origin_plain : KeptOrigin → Origin
+abbrev pub origin_plain : StoredOrigin → Origin
 origin_plain m = record { instance = m.instance; name = m.name.now; content = content_plain m.content }
 
 -- how many items at the front belong to an instance

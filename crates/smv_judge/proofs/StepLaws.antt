@@ -20,7 +20,7 @@ use Rattle.smv_meaning.specs.Runs.{state_fits, label_fits, unless_fails, is_brok
 use Rattle.smv_meaning.specs.laws.Booleans.{both_true, absurd_bool}
 use Rattle.smv_laws.proofs.SafeExpressions.{accepted_is_checked_law}
 use Rattle.smv_accepted.proofs.Literals.{words_fit_law}
-use Rattle.smv_accepted.proofs.ItemNames.{names_stand_once_law}
+use Rattle.smv_accepted.proofs.ItemNames.{names_are_distinct_law}
 use Rattle.smv_items.specs.FlatItems.{PlainFlatItem, origins_of}
 use Rattle.smv_items.specs.FlatItemView.{item_plain}
 use Rattle.smv_flat.specs.FlatForms.{PlainFlat, flat_smv}
@@ -60,7 +60,7 @@ pub own_label : (flat : PlainFlat) (source : PlainSource) → IsFlatOf source fl
 own_label flat source m =
     subst (λ (f : PlainFlat). IsTrue (label_fits (instances_of source) (given (first_label f.items)))) (sym m.form)
     (first_label_fits (instances_of source) (declared source flat m)
-    (names_stand_once_law source m.read.end m.read.text m.read.tokens m.read.lexed m.read.spelled m.needed m.accepted))
+    (names_are_distinct_law source m.read.end m.read.text m.read.tokens m.read.lexed m.read.spelled m.needed m.accepted))
 
 -- ---- values
 

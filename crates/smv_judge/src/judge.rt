@@ -50,7 +50,7 @@ fn take_last<'a, T: TakesRows>(
     Ok(())
 }
 
-// The verdict on the states after a state whose values the row has. With Yes, the row of each state is handed on.
+// The verdict on the states after a state whose values the row has. With Yes, the row of each state is passed on.
 fn judge_steps<'a, T: TakesRows>(
     alloc: Global,
     flat: &FlatParts<'a>,

@@ -12,7 +12,7 @@ use Rattle.smv_meaning.specs.Types.{ExprType, word_type, is_word_type, in_limit,
 use Rattle.smv_meaning.specs.Checks.{Check, check, Position, single, under_next, Named, Typing, node, on_type, all_types, on_all, front, across, behind, branches_fit, branches_type, typing, link_types, link_checks, linked, condition_types, value_types, branch_checks, tree_types, tree_checks}
 use Rattle.smv_laws.proofs.Cycles.{In}
 
--- ---- what follows an expression's paths stands among them
+-- ---- what follows an expression's paths is among them
 
 mutual
   pub more_paths : (e : Tree) (more : List Path) (q : Path) → In q more → In q (paths_of e more)

@@ -19,7 +19,7 @@ use Rattle.smv_meaning.specs.Naming.{in_body, typed_variable, named_found}
 use Rattle.smv_meaning.specs.Phases.{over_instances, path_check, path_checks, element_paths, is_something, in_state, in_step, in_assignment, actual_typing, actuals_typing, formula_typing, assigned_typing, element_typing, type_checks, names_in}
 use Rattle.smv_meaning.specs.Owed.{HasType}
 use Rattle.smv_meaning.specs.Literals.{words_fit}
-use Rattle.smv_meaning.specs.Parts.{IsPart, InTrees, InOne, expressions_in, InElements, InActuals, StandsIn}
+use Rattle.smv_meaning.specs.Parts.{IsPart, InTrees, InOne, expressions_in, InElements, InActuals, OccursIn}
 use Rattle.smv_meaning.specs.Settled.{has_body, Acyclic, types_in, rank_of}
 use Rattle.smv_meaning.specs.Checked.{IsChecked, instance_all, all_trees, names_instance}
 use Rattle.smv_meaning.specs.laws.Booleans.{both_true, absurd_bool}
@@ -332,13 +332,13 @@ in_trees t i (tree x xs) g h l f e k =
     let w = both_words x (list_of xs) f in
     ⊎_elim (λ s. in_actual t i x (tree_paths xs []) g b.0 l w.0 e s) (λ s. in_trees t i xs g b.1 (more_lead t i x (tree_paths xs []) l) (both_words x (list_of xs) f).1 e s) k
 
--- where an instance stands in the list
+-- where an instance is in the list
 actual_at : (i : ℕ) (e : Tree) (t : List Instance) → InActuals i e t → (c : ℕ) × (at : Instance) × (slice_get t c ≡ Some at) × (parent_of at ≡ i) × InTrees e at.actuals
 actual_at i e [] h = absurd h
 actual_at i e (at ∷ t) (inl h) = (0, at, refl, h.0, h.1)
 actual_at i e (at ∷ t) (inr h) = let r = actual_at i e t h in (suc r.0, r.1, r.2, r.3, r.4)
 
-pub stands_sound : (t : List Instance) → AllTyped t → ((i : ℕ) (at : Instance) → slice_get t i ≡ Some at → Checked t i at) → (i : ℕ) (e : Tree) → StandsIn t i e → SoundOrName t i e
+pub stands_sound : (t : List Instance) → AllTyped t → ((i : ℕ) (at : Instance) → slice_get t i ≡ Some at → Checked t i at) → (i : ℕ) (e : Tree) → OccursIn t i e → SoundOrName t i e
 stands_sound t g c i e (inl h) = by (slice_get t i) refl h
   where
     by : (o : Option Instance) → slice_get t i ≡ o → InElements e o → SoundOrName t i e

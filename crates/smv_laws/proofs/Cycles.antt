@@ -74,7 +74,7 @@ flat_in f y x [] h e = absurd h
 flat_in f y x (z ∷ xs) (inl s) e = in_left y (f z) (flat_map f xs) (subst (λ w. In y (f w)) s e)
 flat_in f y x (z ∷ xs) (inr s) e = in_right y (f z) (flat_map f xs) (flat_in f y x xs s e)
 
--- ---- more of them than there are, and one stands twice
+-- ---- more of them than there are, and one occurs twice
 
 without : Body → List Body → List Body
 without k [] = []
@@ -164,7 +164,7 @@ chain_rest : (f : Body → List Body) (x : Body) (ks : List Body) → Chain f (x
 chain_rest f x [] c = tt
 chain_rest f x (y ∷ ks) c = c.1
 
--- where nothing reaches itself, nothing stands twice in a chain
+-- where nothing reaches itself, nothing occurs twice in a chain
 chain_once : (f : Body → List Body) (n : ℕ) → ((k : Body) → reaches f n k k ≡ false) → (ks : List Body) → length ks ≤ suc n → Chain f ks → Twice ks → ⊥
 chain_once f n a [] l c h = h
 chain_once f n a (x ∷ ks) l c h =

@@ -63,7 +63,7 @@ place_is (x ∷ xs) k h =
       ]
     ]
 
--- an element stands at its place or behind it
+-- an element is at its place or behind it
 pub place_first : (ks : List Body) (a : ℕ) → a < length ks → place ks (slice_index_or ks a nobody) ≤ a
 place_first [] a l = absurd (omega (arith, l))
 place_first (x ∷ xs) zero l = omega (arith, place_here x x xs (same_self x))

@@ -1,4 +1,4 @@
--- A list in which each definition and actual stands after those to which it refers gives them ranks.
+-- A list in which each definition and actual is after those to which it refers gives them ranks.
 use Rattle.std.proofs.Common.{◌≡◌, ℕ, suc, ◌<◌, Bool, true, false, nat_lt, ◌||◌, if◌then◌else◌, List, [], ◌∷◌, refl, sym, subst, arith}
 use Rattle.std.proofs.lemmas.Bool.Decides.{Decides-ltb}
 use mathlib.Core.Logic.{◌⊎◌, inl, inr, ⊎_elim}

@@ -1,4 +1,4 @@
--- Orders of definitions and actuals, by what stands in them.
+-- Orders of definitions and actuals, by what is in them.
 use Rattle.std.proofs.Common.{◌≡◌, ℕ, ◌<◌, Bool, true, false, ◌&&◌, ◌||◌, ◌==◌, nat_lt, List, [], ◌∷◌, ◌++◌, map, length, refl, sym, ap, ◌∙◌, subst, append_assoc, append-nil, arith}
 use Rattle.std.specs.Prelude.{slice_index_or}
 use Rattle.std.specs.List.{list_all}
@@ -10,7 +10,7 @@ use Rattle.smv_meaning.specs.Expressions.{paths_of}
 use Rattle.smv_meaning.specs.Checks.{Named}
 use Rattle.smv_meaning.specs.Phases.{Body, body_same, refers}
 use Rattle.smv_meaning.specs.Bodies.{bodies_of, number_or, reference_graph}
-use Rattle.smv_meaning.specs.Orders.{numbered, is_listed, OrderIsWhole, ReferencesStandBefore, SameOn, TypesHangOnPaths}
+use Rattle.smv_meaning.specs.Orders.{numbered, is_listed, OrderIsComplete, ReferencesComeBefore, SameOn, TypesHangOnPaths}
 use Rattle.smv_meaning.specs.laws.Booleans.{both_true}
 use Rattle.smv_laws.proofs.Cycles.{In, same_self, in_any, any_in}
 use Rattle.smv_laws.proofs.Ranked.{keys_of, in_keys, within_keys}
@@ -35,12 +35,12 @@ listed t (n ∷ ns) k h e = by (λ l. listed t ns k h l) (n == number t k) refl 
         let more = any_in (body_same k) (map (numbered t) ns) (ih g) in
         in_any (body_same k) more.0 (map (numbered t) (n ∷ ns)) (inr more.1) more.2
 
-pub order_is_whole_law : OrderIsWhole
-order_is_whole_law t order o k h =
+pub order_is_complete_law : OrderIsComplete
+order_is_complete_law t order o k h =
     let there : In k (keys_of t) = in_keys t k.0 k.1 h in
     listed t order k there (o.sorted.whole (number t k) (omega (arith, place_within (keys_of t) k there, graph_length t)))
 
--- ---- what stands before
+-- ---- what is before
 
 stands : (g : NodeLists) (seen mid after : List ℕ) (n : ℕ) → falls_from g seen (mid ++ n ∷ after) ≡ true → list_all (is_in (seen ++ mid)) (next_of g n) ≡ true
 stands g seen [] after n h = subst (λ l. list_all (is_in l) (next_of g n) ≡ true) (sym (append-nil seen)) (both_true (list_all (is_in seen) (next_of g n)) (falls_from g (seen ++ n ∷ []) after) h).0
@@ -61,8 +61,8 @@ within : (g : NodeLists) (before after : List ℕ) (n : ℕ) → list_all (λ k.
 within g [] after n h = ltb-true n (length g) (both_true (nat_lt n (length g)) (list_all (λ k. nat_lt k (length g)) after) h).0
 within g (m ∷ before) after n h = within g before after n (both_true (nat_lt m (length g)) (list_all (λ k. nat_lt k (length g)) (before ++ n ∷ after)) h).1
 
-pub references_stand_before_law : ReferencesStandBefore
-references_stand_before_law t before after n o =
+pub references_come_before_law : ReferencesComeBefore
+references_come_before_law t before after n o =
     let k = slice_index_or (keys_of t) n nobody in
     let low : n < length (keys_of t) = omega (arith, within (reference_graph t) before after n o.sorted.within, graph_length t) in
     let fell : list_all (is_in before) (next_of (reference_graph t) n) ≡ true = stands (reference_graph t) [] before after n o.sorted.falls in

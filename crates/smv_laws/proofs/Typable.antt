@@ -65,7 +65,7 @@ not_instance : (b : Bool) → not b ≡ true → b ≡ false
 not_instance true h = absurd_bool h
 not_instance false h = refl
 
--- the checks of a chain's front stand among those of the chain
+-- the checks of a chain's front are among those of the chain
 pub linked_front : (names : Path → Named) (at : Position) (p : Place) (a : Typing) (ls : Links) → Holds (linked names at p a ls).checks → Holds a.checks
 linked_front names at p a no_links h = h
 linked_front names at p a (link op e ls) h =

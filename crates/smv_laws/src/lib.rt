@@ -15,7 +15,7 @@ pub use checked::{
     accepted_is_checked, expressions_are_safe, expressions_have_types, names_have_types,
 };
 pub use orders::{
-    order_is_whole, references_stand_before, refused_have_no_type, types_hang_on_paths,
+    order_is_complete, references_come_before, refused_have_no_type, types_hang_on_paths,
 };
 pub use settled::{
     acyclic_is_ranked, cycles_are_checked, names_settle, ordered_is_acyclic, ranked_is_acyclic,

@@ -1,14 +1,14 @@
 // Laws for passes along an order of definitions and actuals. These functions do nothing.
-ghost use Rattle.smv_meaning.specs.Orders.{OrderIsWhole, ReferencesStandBefore, TypesHangOnPaths, RefusedHaveNoType};
+ghost use Rattle.smv_meaning.specs.Orders.{OrderIsComplete, ReferencesComeBefore, TypesHangOnPaths, RefusedHaveNoType};
 
 /// Proves that an order of definitions and actuals contains each of them.
-pub fn order_is_whole()
-    ensures { OrderIsWhole }
+pub fn order_is_complete()
+    ensures { OrderIsComplete }
 {}
 
 /// Proves that in such an order a definition or an actual comes after those to which it refers.
-pub fn references_stand_before()
-    ensures { ReferencesStandBefore }
+pub fn references_come_before()
+    ensures { ReferencesComeBefore }
 {}
 
 /// Proves that the checks of an expression and its type depend only on the paths in it.

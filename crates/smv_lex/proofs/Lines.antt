@@ -1,4 +1,4 @@
--- A lexeme stands in one line, so that the place behind it is as many bytes along.
+-- A lexeme is in one line, so that the place behind it is as many bytes along.
 use Rattle.std.proofs.Common.{◌≡◌, ◌<◌, ◌+◌, ℕ, Bool, true, false, not, eqb, List, [], ◌∷◌, ◌++◌, length, take, refl, sym, ap, ◌∙◌, inl, inr, arith}
 use Rattle.std.specs.List.{list_all}
 use Rattle.std.proofs.lemmas.List.{length-take-le}

@@ -8,7 +8,7 @@ use Rattle.smv_text.specs.declared.token.Sign.{Sign}
 use Rattle.smv_text.specs.declared.token.Sign.TheVariants as sign
 use Rattle.text_core.specs.Bytes.{is_digit}
 use Rattle.smv_text.specs.Bytes.{is_letter, is_blank, AllPass, IsLongest, front_length, heads}
-use Rattle.smv_text.specs.Signs.{sign_bytes, may_stand}
+use Rattle.smv_text.specs.Signs.{sign_bytes, may_appear}
 use Rattle.smv_text.specs.Words.{IsGap, no_gap, blank, comment, IsLexeme, in_word, in_run}
 use Rattle.smv_lex.specs.Reading.{on_some, gap_step, gap_length, lexeme_length, begins_comment, colon_sign, dot_sign, bang_sign, less_sign, greater_sign, dash_sign, slash_sign, sign_at, sign_length}
 
@@ -120,18 +120,18 @@ longest_gap text = longest_from {P = λ f r. IsGap f} (gap_length false) text (g
 -- signs
 pub OnSign : List ℕ → Option Sign → Type 0
 OnSign text None = Unit {0}
-OnSign text (Some s) = (rest : List ℕ) × (text ≡ sign_bytes s ++ rest) × IsTrue (may_stand s rest)
+OnSign text (Some s) = (rest : List ℕ) × (text ≡ sign_bytes s ++ rest) × IsTrue (may_appear s rest)
 
 head_is : (c : ℕ) (bs : List ℕ) → heads c bs ≡ true → bs ≡ c ∷ drop 1 bs
 head_is c [] e = absurd (cc)
 head_is c (b ∷ bs) e = ap (λ x. x ∷ bs) (eqb-true b c e)
 
 -- the sign at a byte, and one byte that goes on with it
-fits_two : (c d : ℕ) (bs : List ℕ) (s : Sign) → sign_bytes s ≡ c ∷ (d ∷ []) → IsTrue (may_stand s (drop 1 bs)) → heads d bs ≡ true → OnSign (c ∷ bs) (Some s)
+fits_two : (c d : ℕ) (bs : List ℕ) (s : Sign) → sign_bytes s ≡ c ∷ (d ∷ []) → IsTrue (may_appear s (drop 1 bs)) → heads d bs ≡ true → OnSign (c ∷ bs) (Some s)
 unfolding OnSign
 fits_two c d bs s spelled stands e = (drop 1 bs, ap (λ x. c ∷ x) (head_is d bs e) ∙ ap (λ x. x ++ drop 1 bs) (sym spelled), stands)
 
-fits_one : (c : ℕ) (bs : List ℕ) (s : Sign) → sign_bytes s ≡ c ∷ [] → IsTrue (may_stand s bs) → OnSign (c ∷ bs) (Some s)
+fits_one : (c : ℕ) (bs : List ℕ) (s : Sign) → sign_bytes s ≡ c ∷ [] → IsTrue (may_appear s bs) → OnSign (c ∷ bs) (Some s)
 unfolding OnSign
 fits_one c bs s spelled stands = (bs, ap (λ x. x ++ bs) (sym spelled), stands)
 
@@ -224,7 +224,7 @@ not_true : (b : Bool) → not b ≡ true → b ≡ false
 not_true true e = cc
 not_true false e = refl
 
-pub sign_longest : (s : Sign) (r : List ℕ) → IsTrue (may_stand s r) → length (sign_bytes s) ≤ lexeme_length (sign_bytes s ++ r)
+pub sign_longest : (s : Sign) (r : List ℕ) → IsTrue (may_appear s r) → length (sign_bytes s) ≤ lexeme_length (sign_bytes s ++ r)
 sign_longest sign.Colon r h = some_bytes (colon_sign r)
 sign_longest sign.Dot r h = some_bytes (dot_sign r)
 sign_longest sign.Less r h = some_bytes (less_sign r)
@@ -246,11 +246,11 @@ lexeme_longest (b ∷ f) r (inr (inr (s, e, h))) = let P : List ℕ → Type 0 =
 abbrev sized : List ℕ → ℕ → Type 0
 sized text n = (n ≤ length text) × (0 < n → IsLexeme (take n text) (drop n text))
 
-sign_lexeme : (s : Sign) (r : List ℕ) → IsTrue (may_stand s r) → IsLexeme (sign_bytes s) r
+sign_lexeme : (s : Sign) (r : List ℕ) → IsTrue (may_appear s r) → IsLexeme (sign_bytes s) r
 sign_lexeme sign.Open r h = inr (inr (sign.Open, refl, h))
 sign_lexeme s r h = inr (inr (s, refl, h))
 
-sized_sign : (s : Sign) (r : List ℕ) → IsTrue (may_stand s r) → sized (sign_bytes s ++ r) (length (sign_bytes s))
+sized_sign : (s : Sign) (r : List ℕ) → IsTrue (may_appear s r) → sized (sign_bytes s ++ r) (length (sign_bytes s))
 sized_sign s r h = (
   omega (arith, length-append (sign_bytes s) r),
   λ lt. let P : List ℕ → List ℕ → Type 0 = λ x y. IsLexeme x y in

@@ -20,7 +20,7 @@ AddsKind n at kind size before now (Ok added) =
 AddsKind n at kind size before now (Err (Bad why)) = (why ≡ refusal_at 4 at) × (most_brackets < opened_by n kind)
 AddsKind n at kind size before now (Err NoMemory) = Unit {0}
 
--- The token that stands next is added to those before. It stands in one line.
+-- The token that stands next is added to those before. It is in one line.
 pub record IsAdded (n : ℕ) (at : Place) (text : List ℕ) (before now : List Token) (added : Added) : Type 0 where
   pub token : Token
   pub items : now ≡ before ++ token ∷ []

@@ -30,15 +30,15 @@ abbrev pub gap_length : Bool → List ℕ → ℕ
 gap_length inside [] = 0
 gap_length inside (b ∷ bs) = on_some (gap_step inside b bs) 0 (λ i. suc (gap_length i bs))
 
--- a byte that goes on with a word, whatever stands behind it
+-- a byte that goes on with a word, whatever is behind it
 abbrev pub is_word_byte : ℕ → Bool
 is_word_byte b = is_letter b || (is_digit b || ((b == 36) || (b == 35)))
 
--- a comment stands at the front
+-- a comment is at the front
 abbrev pub begins_comment : List ℕ → Bool
 begins_comment text = heads 45 text && heads 45 (drop 1 text)
 
--- the longest sign that begins with a colon, where this text stands behind it; and so on
+-- the longest sign that begins with a colon, where this text is behind it; and so on
 abbrev pub colon_sign : List ℕ → Sign
 colon_sign rest = if heads 61 rest then sign.Assign else (if heads 58 rest then sign.Concat else sign.Colon)
 

@@ -29,7 +29,7 @@ abbrev pub joined : List TokenKind → List ℕ
 joined [] = []
 joined (k ∷ ks) = spelled k ++ spaced ks
 
--- the same, with a blank before the first where it stands behind others
+-- the same, with a blank before the first where it is behind others
 abbrev pub written : Bool → List TokenKind → List ℕ
 written true ks = spaced ks
 written false ks = joined ks

@@ -12,7 +12,7 @@ use Rattle.smv_meaning.specs.Checks.{check, first_failing}
 use Rattle.smv_meaning.specs.Phases.{Body, body_same, refers, path_bodies, place_of, over_instances}
 use Rattle.smv_meaning.specs.Settled.{Acyclic, cycle_checks_of}
 
--- a definition or an actual, and where it stands
+-- a definition or an actual, and where it is
 pub record Placed : Type 0 where
   pub body : Body
   pub place : Place
@@ -69,7 +69,7 @@ abbrev pub refusal_of : Option Placed → Option Refusal
 refusal_of None = None
 refusal_of (Some f) = Some (check 15 f.place false).refusal
 
--- an order in which each stands after those to which it refers
+-- an order in which each is after those to which it refers
 pub record IsBodyOrder (t : List Instance) (order : List ℕ) : Type 0 where
   pub sorted : IsSorted (reference_graph t) order
   pub acyclic : Acyclic t

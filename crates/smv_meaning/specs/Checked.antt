@@ -16,7 +16,7 @@ use Rattle.smv_meaning.specs.Safety.{Safe, SafePath}
 use Rattle.smv_meaning.specs.Typed.{Gives}
 use Rattle.smv_meaning.specs.Owed.{HasType}
 use Rattle.smv_meaning.specs.Literals.{words_fit}
-use Rattle.smv_meaning.specs.Parts.{expressions_in, StandsIn}
+use Rattle.smv_meaning.specs.Parts.{expressions_in, OccursIn}
 use Rattle.smv_meaning.specs.Settled.{cycle_checks_of, types_in}
 
 -- the checks of phases 4 and 6
@@ -53,7 +53,7 @@ NamesHaveTypes = (t : List Instance) → IsChecked t → IsTrue (all_trees words
 
 -- an expression of an instance has a type in some position, but where it is the name of an instance
 abbrev pub ExpressionsHaveTypes : Type 0
-ExpressionsHaveTypes = (t : List Instance) → IsChecked t → IsTrue (all_trees words_fit t) → (i : ℕ) (e : Tree) → StandsIn t i e
+ExpressionsHaveTypes = (t : List Instance) → IsChecked t → IsTrue (all_trees words_fit t) → (i : ℕ) (e : Tree) → OccursIn t i e
     → ((at : Position) × HasType (typing (types_in true t i) at e).type) ⊎ ((p : Place) × (x : Path) × (e ≡ name p x) × (names_instance (found_in t i x) ≡ true))
 
 -- the expression reaches an input from the numbered instance
@@ -64,6 +64,6 @@ reaches_an_input t i e = list_any (λ q. (types_in true t i q).reaches_input) (p
 abbrev pub ExpressionsAreSafe : Type 0
 ExpressionsAreSafe = (t : List Instance) → IsChecked t → IsTrue (all_trees words_fit t)
     → (inputs : Bool) (state label following : Valuation) → Gives inputs (found_in t) state label → Gives inputs (found_in t) following label
-    → (i : ℕ) (e : Tree) → StandsIn t i e → IsTrue (inputs || not (reaches_an_input t i e))
+    → (i : ℕ) (e : Tree) → OccursIn t i e → IsTrue (inputs || not (reaches_an_input t i e))
     → Safe (SafePath (found_in t) (steps_of t) state label i) (SafePath (found_in t) (steps_of t) following label i)
     (reading (found_in t) (steps_of t) state label i) (reading (found_in t) (steps_of t) following label i) e

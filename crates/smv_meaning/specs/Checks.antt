@@ -83,7 +83,7 @@ abbrev pub both_types : (ExprType → ExprType → ExprType) → Option ExprType
 both_types f (Some t) (Some u) = Some (f t u)
 both_types f t u = None
 
--- the front of a chain that ends with an operand, given the types of what stands before its last operator and of the operand
+-- the front of a chain that ends with an operand, given the types of what is before its last operator and of the operand
 abbrev pub front_checks : Infix → Position → Place → Option ExprType → Option ExprType → Tree → List Check
 front_checks op at place a b e =
     check 16 place (on_types a b (infix_fits op))
@@ -102,7 +102,7 @@ abbrev pub are_unions : Links → Bool
 are_unions no_links = true
 are_unions (link op e ls) = is_union op && are_unions ls
 
--- the position of a chain's first operand: a set stands in a chain of `union`, where the whole may be one
+-- the position of a chain's first operand: a set is in a chain of `union`, where the whole may be one
 abbrev pub across : Links → Position → Position
 across ls at = if are_unions ls then at else single at
 

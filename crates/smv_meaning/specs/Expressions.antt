@@ -71,7 +71,7 @@ abbrev mutual
   linked now later d no_links = d
   linked now later d (link op e ls) = linked now later (joined op d (denote now later e)) ls
 
-  -- the first branch whose condition is true, else what stands behind the last colon
+  -- the first branch whose condition is true, else what is behind the last colon
   pub chosen : (Path → Value) → (Path → Value) → Branches → Denotation → Denotation
   chosen now later no_branches d = d
   chosen now later (branch c e rest) d =

@@ -20,13 +20,13 @@ abbrev pub is_listed : List Body → Body → Bool
 is_listed ks k = list_any (body_same k) ks
 
 -- an order has each definition and each actual
-abbrev pub OrderIsWhole : Type 0
-OrderIsWhole = (t : List Instance) (order : List ℕ) → IsBodyOrder t order
+abbrev pub OrderIsComplete : Type 0
+OrderIsComplete = (t : List Instance) (order : List ℕ) → IsBodyOrder t order
     → (k : Body) → has_body (local t k.0 k.1) ≡ true → is_listed (map (numbered t) order) k ≡ true
 
--- those to which one refers stand before it
-abbrev pub ReferencesStandBefore : Type 0
-ReferencesStandBefore = (t : List Instance) (before after : List ℕ) (n : ℕ) → IsBodyOrder t (before ++ n ∷ after)
+-- those to which one refers are before it
+abbrev pub ReferencesComeBefore : Type 0
+ReferencesComeBefore = (t : List Instance) (before after : List ℕ) (n : ℕ) → IsBodyOrder t (before ++ n ∷ after)
     → IsTrue (list_all (is_listed (map (numbered t) before)) (refers t (numbered t n)))
 
 -- ---- types

@@ -60,5 +60,5 @@ InActuals i e [] = ⊥
 InActuals i e (at ∷ t) = ((parent_of at ≡ i) × InTrees e at.actuals) ⊎ InActuals i e t
 
 -- the expression is one of the numbered instance, or part of one
-abbrev pub StandsIn : List Instance → ℕ → Tree → Type 0
-StandsIn t i e = InElements e (slice_get t i) ⊎ InActuals i e t
+abbrev pub OccursIn : List Instance → ℕ → Tree → Type 0
+OccursIn t i e = InElements e (slice_get t i) ⊎ InActuals i e t

@@ -62,7 +62,7 @@ abbrev pub fronts_value : (Path → Value) → (Path → Value) → Value → Li
 fronts_value f g v no_links = v
 fronts_value f g v (link op e ls) = fronts_value f g (front_value op v (denote f g e)) ls
 
--- whether it permits the value u, where what stands before does or doesn't
+-- whether it permits the value u, where what is before does or doesn't
 abbrev pub front_permits : Infix → Value → Value → Bool → Denotation → Bool
 front_permits Union u v p c = p || c.permits u
 front_permits op u v p c = value_same (front_value op v c) u

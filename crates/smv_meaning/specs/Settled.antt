@@ -39,7 +39,7 @@ has_body (alias j path) = true
 has_body (body_of j e) = true
 has_body l = false
 
--- each of a list stands after those to which it refers, or these were seen before
+-- each of a list is after those to which it refers, or these were seen before
 abbrev pub is_ordered : (Body → List Body) → List Body → List Body → Bool
 is_ordered refers seen [] = true
 is_ordered refers seen (k ∷ ks) = list_all (λ m. list_any (body_same m) seen) (refers k) && is_ordered refers (k ∷ seen) ks

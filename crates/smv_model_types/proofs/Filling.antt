@@ -16,7 +16,7 @@ use Rattle.smv_meaning.specs.Naming.{in_body, unnamed, named_found}
 use Rattle.smv_meaning.specs.Phases.{Body, body_same, body_here, from_instance, path_bodies, referred, refers}
 use Rattle.smv_meaning.specs.Settled.{Acyclic, has_body, types_in, NamesSettle, TypesSettle}
 use Rattle.smv_meaning.specs.Bodies.{instance_within, IsBodyOrder}
-use Rattle.smv_meaning.specs.Orders.{numbered, is_listed, SameOn, TypesHangOnPaths, OrderIsWhole}
+use Rattle.smv_meaning.specs.Orders.{numbered, is_listed, SameOn, TypesHangOnPaths, OrderIsComplete}
 use Rattle.smv_model_types.specs.Entries.{Entries, nameless, named_instance, or_unnamed, variable_or, entry_or, alias_or, entries_step, entries_walk, entries_single, entries_through, entries_names, HasEach, put_for, variable_put, or_else, Becomes, LeadsAs, IsPut, IsReady, Right, Has}
 
 -- ---- tests
@@ -322,6 +322,6 @@ path_bodies_listed t ks whole (x ∷ rest) i =
     inside cyclic f = refl
     inside none f = refl
 
-pub all_held : (t : List Instance) (entries : Entries) (order : List ℕ) → IsBodyOrder t order → NamesSettle → TypesSettle → OrderIsWhole → Holds t entries (map (numbered t) order) → HasEach t entries
+pub all_held : (t : List Instance) (entries : Entries) (order : List ℕ) → IsBodyOrder t order → NamesSettle → TypesSettle → OrderIsComplete → Holds t entries (map (numbered t) order) → HasEach t entries
 all_held t entries order o n y whole r i path =
     names_right t entries (map (numbered t) order) (n t o.acyclic).1 r i path (path_bodies_listed t (map (numbered t) order) (whole t order o) path.names i) ∙ sym (y t o.acyclic true i path)

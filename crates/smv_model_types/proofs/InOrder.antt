@@ -9,7 +9,7 @@ use Rattle.smv_meaning.specs.Instances.{Instance}
 use Rattle.smv_meaning.specs.Phases.{refers}
 use Rattle.smv_meaning.specs.Settled.{NamesSettle, TypesSettle}
 use Rattle.smv_meaning.specs.Bodies.{Placed, placed_bodies, bodies_of, references_of, reference_graph, IsBodyOrder}
-use Rattle.smv_meaning.specs.Orders.{numbered, is_listed, ReferencesStandBefore, TypesHangOnPaths}
+use Rattle.smv_meaning.specs.Orders.{numbered, is_listed, ReferencesComeBefore, TypesHangOnPaths}
 use Rattle.smv_references.specs.View.{body_plain, key_of}
 use Rattle.smv_model_types.specs.Entries.{Entries, IsPut, IsReady}
 use Rattle.smv_model_types.proofs.Filling.{both_true, Holds, ready, one_more}
@@ -39,7 +39,7 @@ parted : (order : List ℕ) (k n : ℕ) → k < length order → n ≡ slice_ind
 parted order k n l is = sym (take-append-drop k order) ∙ ap (λ xs. take k order ++ xs) (drop_more order k n l ∙ ap (λ m. m ∷ drop (k + 1) order) (sym is))
 
 -- the entries with those before one of the order are ready for it
-pub next_ready : (t : List Instance) (fs : List Kept) (order : List ℕ) (k n : ℕ) (f : Kept) (old : Entries) → map body_plain fs ≡ placed_bodies t → IsBodyOrder t order → NamesSettle → ReferencesStandBefore
+pub next_ready : (t : List Instance) (fs : List Kept) (order : List ℕ) (k n : ℕ) (f : Kept) (old : Entries) → map body_plain fs ≡ placed_bodies t → IsBodyOrder t order → NamesSettle → ReferencesComeBefore
     → k < length order → n ≡ slice_index_or order k n → f ≡ slice_index_or fs n f → Holds t old (map (numbered t) (take k order)) → IsReady t (key_of f) old
 next_ready t fs order k n f old e o names before l is fis h =
     let low = number_low t fs order k n e o l is in
@@ -48,7 +48,7 @@ next_ready t fs order k n f old e o names before l is fis h =
     ready t old (map (numbered t) (take k order)) o.acyclic names h (key_of f) (ap (λ q. list_all (is_listed (map (numbered t) (take k order))) (refers t q)) (sym key) ∙ refs)
 
 -- one more of the order is put into the entries
-pub next_put : (t : List Instance) (fs : List Kept) (order : List ℕ) (k n : ℕ) (f : Kept) (old new : Entries) → map body_plain fs ≡ placed_bodies t → IsBodyOrder t order → NamesSettle → TypesSettle → TypesHangOnPaths → ReferencesStandBefore
+pub next_put : (t : List Instance) (fs : List Kept) (order : List ℕ) (k n : ℕ) (f : Kept) (old new : Entries) → map body_plain fs ≡ placed_bodies t → IsBodyOrder t order → NamesSettle → TypesSettle → TypesHangOnPaths → ReferencesComeBefore
     → k < length order → n ≡ slice_index_or order k n → f ≡ slice_index_or fs n f → IsPut t (key_of f) old new
     → Holds t old (map (numbered t) (take k order)) → Holds t new (map (numbered t) (take (k + 1) order))
 next_put t fs order k n f old new e o names types hang before l is fis b h =

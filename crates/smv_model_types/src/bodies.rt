@@ -18,7 +18,7 @@ use name_maps::add_row_in;
 use smv_instances::{Known, Table};
 use smv_intervals::Ty;
 use smv_laws::{
-    names_settle, order_is_whole, references_stand_before, refused_have_no_type,
+    names_settle, order_is_complete, references_come_before, refused_have_no_type,
     types_hang_on_paths, types_settle,
 };
 use smv_references::{Body, paths_in};
@@ -130,8 +130,8 @@ pub(crate) fn entries_of<'a>(
     names_settle();
     types_settle();
     types_hang_on_paths();
-    references_stand_before();
-    order_is_whole();
+    references_come_before();
+    order_is_complete();
     let mut entries = variables_of(alloc, table)?;
     for k in 0..order.len() {
         let body = numbered_body(bodies, *order.at(k));

@@ -54,7 +54,7 @@ pub begins_count : (n : ℕ) (ms : List PlainModule) (above : List (List ℕ)) (
 begins_count n ms above path met m ds h d =
     ap (λ l. visit_count (counted_all met l) (declared_visits (visits (n - 1) ms (m.name ∷ above)) ms path l)) d ∙ sym (ap (visit_count met) (visits_begin n ms above path m h))
 
--- an item's instance, and what stands behind the item
+-- an item's instance, and what is behind the item
 pub goes_on : (ms : List PlainModule) (count more : ℕ) (vs ws : List Visit) → first_failing (visit_checks ms count vs) ≡ None → more ≡ visit_count count vs
     → first_failing (visit_checks ms more ws) ≡ first_failing (visit_checks ms count (vs ++ ws))
 goes_on ms count more vs ws h e =

@@ -12,13 +12,13 @@ use Rattle.smv_expressions.specs.declared.stop.Stop.TheVariants.{Dead, NoMemory}
 use Rattle.smv_parse.specs.Answers.{Loses}
 use Rattle.smv_parse.specs.Parsing.{refusal, dead_refusal, IsTooHigh, HasDead}
 use Rattle.std.specs.Borrow.{Bor}
-use Rattle.smv_expressions.specs.declared.kept.Kept.{Kept}
+use Rattle.smv_expressions.specs.declared.kept.MeasuredExpr.{MeasuredExpr}
 use Rattle.smv_expressions.specs.Following.{Takes}
 use Rattle.smv_expressions.specs.Gathered.{read_of}
 use Rattle.smv_grammar.proofs.Asked.{expression_dies}
 use Rattle.smv_grammar.proofs.Models.{dead_at, found_high, model_within, reading}
 
-pub expression_loses : (h : Option Place) (xs : List Token) (e : Stop) → Takes {Y = Kept × Bor (List Token)} (λ x. (read_of x.0, x.1.now)) xs (Err e) → Loses (expression h xs) e
+pub expression_loses : (h : Option Place) (xs : List Token) (e : Stop) → Takes {Y = MeasuredExpr × Bor (List Token)} (λ x. (read_of x.0, x.1.now)) xs (Err e) → Loses (expression h xs) e
 expression_loses h xs (Dead n) f = expression_dies h xs n f
 expression_loses h xs NoMemory f = tt
 

@@ -355,7 +355,7 @@ record SameCases (bs : Branches) (ys : List Token) : Type 0 where
 abbrev CasesAgain : Branches → Type 0
 CasesAgain bs = (ys : List Token) → kinds ys ≡ case_kinds bs ++ kind.Reserved word.Esac ∷ [] → SameCases bs ys
 
--- a condition, its value, and what stands behind them
+-- a condition, its value, and what is behind them
 record Case (w v : Tree) (ks : List TokenKind) (ys : List Token) : Type 0 where
   pub condition : List Token
   pub value : List Token

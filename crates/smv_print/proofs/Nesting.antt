@@ -484,7 +484,7 @@ pub opens_none_at : (xs : List Token) → OpensNone xs → (m : ℕ) → open_be
 unfolding OpensNone
 opens_none_at xs o m = o m
 
--- conditions and values, each where the level of this place is wanted, and what stands behind the last colon
+-- conditions and values, each where the level of this place is wanted, and what is behind the last colon
 branch_at : ℕ → Branches → Tree → List TokenKind
 branch_at f no_branches t = standing f t (tree_kinds t)
 branch_at f (branch w v bs) t =

@@ -28,7 +28,7 @@ use Rattle.smv_print.proofs.Parting.{headed, nothing}
 use Rattle.smv_print.proofs.Parting.{parted as cut}
 use Rattle.smv_print.proofs.Again.{path_again, integer_again, listed_again, expression_again}
 
--- a front, a token, and what stands behind it
+-- a front, a token, and what is behind it
 record Ended (ahead : List TokenKind) (k : TokenKind) (bs : List TokenKind) (xs : List Token) : Type 0 where
   pub front : List Token
   pub token : Token

@@ -164,7 +164,7 @@ abbrev pub parameter_kinds : List Parameter → List TokenKind
 parameter_kinds [] = []
 parameter_kinds (p ∷ ps) = in_brackets (parted sign.Comma false (map ident (map parameter_name (p ∷ ps))))
 
--- what stands behind a module's first word
+-- what is behind a module's first word
 abbrev pub rest_kinds : PlainModule → List TokenKind
 rest_kinds m = kind.Ident m.name ∷ (parameter_kinds m.parameters ++ flat_map element_kinds m.elements)
 

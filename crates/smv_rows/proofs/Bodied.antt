@@ -36,7 +36,7 @@ pub have_on : (old new : List (Option (Bor FlatExpr))) (f : Form) (fs all : List
 have_on old new f fs all a h later ext have =
     h later (λ k e g. ext k e (a.extends k e g)) (role_on (bodies_in new) (bodies_in later) ext f.role f.body a.is, have)
 
--- what stands among the rest stands among all
+-- what is among the rest is among all
 abbrev pub AmongAll : List Form → List Form → Type 0
 AmongAll rest all = (k : ℕ) (e : FlatTree) → IsAmong k e rest → IsAmong k e all
 

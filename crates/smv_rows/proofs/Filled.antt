@@ -19,7 +19,7 @@ use Rattle.smv_flat.specs.FlatForms.{Form, PlainFlat}
 use Rattle.smv_flat_laws.specs.FlatTruth.{Row, symbol_value, form_denotes, GivesKind, GivesItem, MeetsRole, MeetsForms, IsRow}
 use Rattle.smv_rows.specs.Reading.{all_read}
 use Rattle.smv_rows.specs.Filling.{Bodies, with_body, filled}
-use Rattle.smv_rows.specs.RowOrders.{IsRoleBody, HaveBodies, is_variable, VariablesAreFree, body_reads, is_settled, AllStand}
+use Rattle.smv_rows.specs.RowOrders.{IsRoleBody, HaveBodies, is_variable, VariablesAreFree, body_reads, is_settled, AllOccur}
 use Rattle.smv_rows.proofs.Sets.{same, own}
 use Rattle.smv_rows.proofs.Agreeing.{denote_same}
 
@@ -118,7 +118,7 @@ item_stays state label v w None h g = tt
 item_stays state label v w (Some m) h g = kind_stays state label m.name v w m.kind (h m refl) g
 
 pub row_meets : (flat : PlainFlat) (items : List FlatItem) (bodies : Bodies) (order : List ℕ) (state label : Valuation) (row : Row) → flat.items ≡ map item_plain items
-    → HaveBodies bodies flat.forms → VariablesAreFree bodies items → is_settled bodies order ≡ true → AllStand bodies order
+    → HaveBodies bodies flat.forms → VariablesAreFree bodies items → is_settled bodies order ≡ true → AllOccur bodies order
     → ((k : ℕ) → GivesItem state label (row k) (option_map item_plain (slice_get items k))) → IsRow flat state label (filled bodies (symbol_value flat.symbols) row order)
 row_meets flat items bodies order state label row same have free settled whole given =
     let symbols = symbol_value flat.symbols in

@@ -20,7 +20,7 @@ abbrev pub body_or_none : Option (Option (Bor FlatExpr)) → Option FlatTree
 body_or_none None = None
 body_or_none (Some o) = body_plain o
 
--- the bodies that stand in a list, each at the number of its item
+-- the bodies that are in a list, each at the number of its item
 abbrev pub bodies_in : List (Option (Bor FlatExpr)) → Bodies
 bodies_in bodies k = body_or_none (slice_get bodies k)
 

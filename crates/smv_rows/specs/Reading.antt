@@ -6,7 +6,7 @@ use Rattle.smv_flat.specs.declared.expressions.FlatBranch.{FlatBranch}
 use Rattle.smv_flat.specs.FlatView.{plain_flat}
 use Rattle.smv_flat.specs.FlatTree.{FlatTree, flat_truth, flat_number, flat_literal, flat_symbol, flat_item, flat_prefix, flat_chain, flat_choice, flat_cases, flat_select, flat_call, flat_set, flat_range, FlatLinks, no_flat_links, flat_link, FlatBranches, no_flat_branches, flat_branch, FlatTrees, no_flat_trees, flat_tree_then}
 
--- each item that stands in it passes the test
+-- each item that is in it passes the test
 abbrev mutual
   pub all_read : (ℕ → Bool) → FlatTree → Bool
   all_read test (flat_truth t b) = true

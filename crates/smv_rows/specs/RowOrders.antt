@@ -46,7 +46,7 @@ VariablesAreFree bodies items = (k : ℕ) (m : FlatItem) → slice_get items k �
 abbrev pub Extends : (old new : Bodies) → Type 0
 Extends old new = (k : ℕ) (e : FlatTree) → old k ≡ Some e → new k ≡ Some e
 
--- the body of an item stands among the formulas
+-- the body of an item is among the formulas
 abbrev pub IsAmong : ℕ → FlatTree → List Form → Type 0
 IsAmong k e [] = ⊥
 IsAmong k e (f ∷ fs) = ((f.role ≡ Body k) × (f.body ≡ e)) ⊎ IsAmong k e fs
@@ -61,7 +61,7 @@ pub record AreItemBodies (items : List FlatItem) (forms : List Form) (bodies : L
   pub free : VariablesAreFree (bodies_in bodies) items
   pub only : ComeFrom (bodies_in bodies) forms
 
--- a body can be added: there is a place for it, and none stands there yet
+-- a body can be added: there is a place for it, and none is there yet
 abbrev pub CanAdd : List (Option (Bor FlatExpr)) → Role → Type 0
 CanAdd bodies (Body k) = (k < length bodies) × (bodies_in bodies k ≡ None)
 CanAdd bodies r = Unit {0}
@@ -84,18 +84,18 @@ body_reads test (Some e) = all_read test e
 abbrev pub IsGraphOf : List (Option (Bor FlatExpr)) → NodeLists → Type 0
 IsGraphOf bodies g = (test : ℕ → Bool) → map (list_all test) g ≡ map (λ b. body_reads test (body_plain b)) bodies
 
--- each item stands once, and no body reads its own item or one that stands behind it
+-- each item stands once, and no body reads its own item or one that is behind it
 abbrev pub is_settled : Bodies → List ℕ → Bool
 is_settled bodies [] = true
 is_settled bodies (k ∷ ks) = body_reads (λ m. not (is_in (k ∷ ks) m)) (bodies k) && (not (is_in ks k) && is_settled bodies ks)
 
-abbrev pub AllStand : Bodies → List ℕ → Type 0
-AllStand bodies order = (k : ℕ) (e : FlatTree) → bodies k ≡ Some e → is_in order k ≡ true
+abbrev pub AllOccur : Bodies → List ℕ → Type 0
+AllOccur bodies order = (k : ℕ) (e : FlatTree) → bodies k ≡ Some e → is_in order k ≡ true
 
 pub record IsOrderOf (bodies : List (Option (Bor FlatExpr))) (order : List ℕ) : Type 0 where
   pub within : list_all (λ k. nat_lt k (length bodies)) order ≡ true
   pub settled : is_settled (bodies_in bodies) order ≡ true
-  pub whole : AllStand (bodies_in bodies) order
+  pub whole : AllOccur (bodies_in bodies) order
 
 -- ---- flat forms that have an order
 
@@ -127,7 +127,7 @@ pub record IsOrderly (flat : PlainFlat) : Type 0 where
   pub ranked : AllByRecursion (FormRanked (map (λ m. m.kind) flat.items) rank) flat.forms
   pub apart : are_distinct (body_numbers flat.forms) ≡ true
 
--- the same of bodies that stand in a list
+-- the same of bodies that are in a list
 abbrev pub HaveRanks : List (Option (Bor FlatExpr)) → Type 0
 HaveRanks bodies = (rank : ℕ → ℕ) × ((k : ℕ) (e : FlatTree) → bodies_in bodies k ≡ Some e → all_read (λ m. nat_lt m (length bodies) && nat_lt (rank m) (rank k)) e ≡ true)
 
@@ -149,7 +149,7 @@ abbrev pub has_inputs : List FlatItem → Bool
 has_inputs [] = false
 has_inputs (m ∷ ms) = is_input m.kind || has_inputs ms
 
--- the bodies by the numbers of their items, an order in which each stands after the items that it reads, the place of each item's
+-- the bodies by the numbers of their items, an order in which each is after the items that it reads, the place of each item's
 -- name, and whether there are inputs
 pub record IsRowOrder (flat : FlatParts) (o : RowOrder) : Type 0 where
   pub bodies : AreItemBodies flat.items.now (parts_plain flat).forms o.bodies.items

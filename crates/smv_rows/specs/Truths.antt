@@ -1,4 +1,4 @@
--- What formulas say of values that stand in lists.
+-- What formulas say of values that are in lists.
 use Rattle.std.specs.Prelude.{ℕ, Bool, List}
 use Rattle.std.specs.List.{list_all}
 use Rattle.smv_text.specs.declared.tree.When.{When}

@@ -115,13 +115,13 @@ infix_term Member words a b = constant nothing
 infix_term Union words a b = constant nothing
 infix_term o words a b = apply (infix_op o words) (two a b)
 
--- the width of a word that ends with an operand, given those of what stands before and of the operand
+-- the width of a word that ends with an operand, given those of what is before and of the operand
 abbrev pub front_width : Infix → ℕ → ℕ → ℕ
 front_width Concat m n = m + n
 front_width o m n = m
 
--- Given whether the operand is a word, the width of what stands before, the number that the operand is, the term of each, and the one
--- that says whether what stands before is among the operand.
+-- Given whether the operand is a word, the width of what is before, the number that the operand is, the term of each, and the one
+-- that says whether what is before is among the operand.
 abbrev pub link_term : Infix → Bool → ℕ → ℕ → Tree → Tree → Tree → Tree
 link_term Member words m amount a b among = among
 link_term ShiftLeft words m amount a b among = infix_term ShiftLeft words a (word_term m amount)

@@ -14,7 +14,7 @@ use Rattle.moxi_term_reading.proofs.StackLaws.{last_append}
 use Rattle.moxi_term_reading.specs.Reading.{Context, meaning_of, names_of}
 use Rattle.moxi_terms.specs.Tree.{bound}
 use Rattle.moxi_term_print.specs.Terms.{name_at}
-use Rattle.moxi_term_print.specs.Standing.{Stands, bound_locals}
+use Rattle.moxi_term_print.specs.WellScoped.{IsWellScoped, bound_locals}
 use Rattle.smv_script.specs.Operators.{t_alone, t_and_u}
 use Rattle.smv_script_laws.specs.LetNames.{IsLetName, AreLetNames}
 
@@ -52,7 +52,7 @@ one_last bounds s =
     last_append 0 bounds (record { name = codes "t"; sort = Some s }) (codes "t")
     ∙ ap (λ n. Some (let f : Found = record { number = n; sort = Some s } in f)) (let e : 0 + length bounds ≡ length bounds = omega arith in e)
 
-pub one_stands : (c : Context) (bounds : List Local) (s : Sort) → Stands c (bounds ++ one_bound s) (bound (length bounds)) s
+pub one_stands : (c : Context) (bounds : List Local) (s : Sort) → IsWellScoped c (bounds ++ one_bound s) (bound (length bounds)) s
 one_stands c bounds s =
     ap (meaning_of c (bounds ++ one_bound s)) (name_behind bounds (record { name = codes "t"; sort = Some s }) [])
     ∙ bound_found c (bounds ++ one_bound s) (codes "t") (length bounds) s (one_last bounds s)
@@ -60,13 +60,13 @@ one_stands c bounds s =
 two_apart : (bounds : List Local) (s r : Sort) → bounds ++ two_bound s r ≡ (bounds ++ one_bound s) ++ (record { name = codes "u"; sort = Some r }) ∷ []
 two_apart bounds s r = sym (append_assoc bounds (one_bound s) (record { name = codes "u"; sort = Some r } ∷ []))
 
-pub first_stands : (c : Context) (bounds : List Local) (s r : Sort) → Stands c (bounds ++ two_bound s r) (bound (length bounds)) s
+pub first_stands : (c : Context) (bounds : List Local) (s r : Sort) → IsWellScoped c (bounds ++ two_bound s r) (bound (length bounds)) s
 first_stands c bounds s r =
     ap (meaning_of c (bounds ++ two_bound s r)) (name_behind bounds (record { name = codes "t"; sort = Some s }) (record { name = codes "u"; sort = Some r } ∷ []))
     ∙ bound_found c (bounds ++ two_bound s r) (codes "t") (length bounds) s
     (ap (λ ls. last_of 0 ls (codes "t")) (two_apart bounds s r) ∙ last_append 0 (bounds ++ one_bound s) (record { name = codes "u"; sort = Some r }) (codes "t") ∙ one_last bounds s)
 
-pub second_stands : (c : Context) (bounds : List Local) (s r : Sort) → Stands c (bounds ++ two_bound s r) (bound (length bounds + 1)) r
+pub second_stands : (c : Context) (bounds : List Local) (s r : Sort) → IsWellScoped c (bounds ++ two_bound s r) (bound (length bounds + 1)) r
 second_stands c bounds s r =
     let x : Local = record { name = codes "u"; sort = Some r } in
     let l = one_long bounds s in

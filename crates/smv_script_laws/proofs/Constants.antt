@@ -22,10 +22,10 @@ use Rattle.moxi_term_reading.specs.declared.locals.Local.{Local}
 use Rattle.moxi_term_reading.specs.Reading.{meaning_of}
 use Rattle.moxi_term_reading.specs.Answer.{locals_of}
 use Rattle.moxi_term_print.specs.Terms.{name_at, constant_name, variable_names}
-use Rattle.moxi_term_print.specs.Standing.{Stands}
+use Rattle.moxi_term_print.specs.WellScoped.{IsWellScoped}
 use Rattle.moxi_term_print.specs.laws.StandingPlaces.{place_front}
 use Rattle.smv_accepted.proofs.Lists.{differ_mapped}
-use Rattle.smv_accepted.proofs.Symbols.{symbols_stand_once_law}
+use Rattle.smv_accepted.proofs.Symbols.{symbols_are_distinct_law}
 use Rattle.smv_script.specs.Script.{symbol_sort}
 use Rattle.smv_script_laws.specs.LetNames.{AreLetNames}
 use Rattle.smv_script_laws.proofs.Applied.{ctx}
@@ -65,8 +65,8 @@ name_is (y ∷ ys) (suc i) x h = name_is ys i x h
 
 pub symbols_apart : (t : List Instance) → AllDiffer (symbols_of t)
 symbols_apart t = differ_by (symbols_of t) (λ k l x y a b e.
-    let p = symbols_stand_once_law t k x a in
-    let q = symbols_stand_once_law t l y b in
+    let p = symbols_are_distinct_law t k x a in
+    let q = symbols_are_distinct_law t l y b in
     same k l (sym p ∙ ap (place_of (symbols_of t)) e ∙ q))
   where
     same : (k l : ℕ) → Some k ≡ Some l → k ≡ l
@@ -102,7 +102,7 @@ name_there [] i x h = cc
 name_there (s ∷ ss) i x h = name_is (s ∷ ss) i x h
 
 pub constant_stands : (t : List Instance) (vs : List Variable) (primes : Primes) → AllByRecursion IsFree (variable_names vs) → (bounds : List Local) → AreLetNames bounds → (i : ℕ) → i < length (symbols_of t)
-    → Stands (ctx (symbol_sort (symbols_of t)) (locals_of vs) primes) bounds (constant (datum.Constant 0 i)) (sort.Choice 0)
+    → IsWellScoped (ctx (symbol_sort (symbols_of t)) (locals_of vs) primes) bounds (constant (datum.Constant 0 i)) (sort.Choice 0)
 constant_stands t vs primes free bounds lets i l =
     let es = symbol_sort (symbols_of t) in
     let c = ctx (symbol_sort (symbols_of t)) (locals_of vs) primes in
@@ -111,5 +111,5 @@ constant_stands t vs primes free bounds lets i l =
       ap (meaning_of c bounds) (name_there (symbols_of t) i x.0 x.1)
           ∙ past_lets c bounds lets (constant_of x.0) refl refl
           ∙ no_variable es vs primes free (constant_of x.0) (weaker es vs primes free (λ (other : List ℕ). bytes_eq (constant_of x.0) other ≡ false) (λ y f. f.constant_apart x.0) (variable_names vs) free)
-          ∙ value_is es vs primes free (constant_of x.0) i refl refl (constant_is (symbols_of t) i x.0 x.1 (symbols_stand_once_law t i x.0 x.1) l),
+          ∙ value_is es vs primes free (constant_of x.0) i refl refl (constant_is (symbols_of t) i x.0 x.1 (symbols_are_distinct_law t i x.0 x.1) l),
     )

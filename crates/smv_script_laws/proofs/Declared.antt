@@ -152,7 +152,7 @@ origin_in t i x kind d h =
 
 -- ---- symbols
 
--- a symbol that some enumeration or CONSTANTS has stands among the model's
+-- a symbol that some enumeration or CONSTANTS has is among the model's
 pub symbol_placed : (t : List Instance) (s : List ℕ) → has_symbol t s ≡ true → (k : ℕ) × (place_of (symbols_of t) s ≡ Some k)
 symbol_placed t s h = let a = symbol_at t s h in (a.k, a.placed)
 

@@ -19,7 +19,7 @@ use Rattle.smv_flat_laws.specs.FlatLaws.{content_value, row_of}
 use Rattle.smv_flat_laws.proofs.FlatFound.{body_in, pair}
 use Rattle.smv_flat_laws.proofs.FlatRows.{row_is_there_law, item_there}
 use Rattle.smv_accepted.specs.NameLaws.{item_names}
-use Rattle.smv_accepted.proofs.Symbols.{symbols_stand_once_law}
+use Rattle.smv_accepted.proofs.Symbols.{symbols_are_distinct_law}
 use Rattle.moxi_terms.specs.declared.data.Datum.{Datum}
 use Rattle.moxi_terms.specs.declared.term.Variable.{Variable}
 use Rattle.moxi_terms.specs.Tree.{variable as moxi_variable}
@@ -82,12 +82,12 @@ module _ (t : List Instance) (width : ℕ) (model : Model t width) (fresh : are_
   kind_at : (k : ℕ) (m : Origin) → slice_get (origins_of t) k ≡ Some m → IsOfKind width (symbols_of t) (flat_item_of t m).type (row k)
   kind_at k m h =
       subst (λ v. IsOfKind width (symbols_of t) (flat_item_of t m).type v) (sym (row_at k m h))
-      (datum_kind width (symbols_of t) model.some (symbols_stand_once_law t) (flat_item_of t m).type (env (place k)) (is_datum k m h))
+      (datum_kind width (symbols_of t) model.some (symbols_are_distinct_law t) (flat_item_of t m).type (env (place k)) (is_datum k m h))
 
   coded_at : (k : ℕ) (m : Origin) → slice_get (origins_of t) k ≡ Some m → env (place k) ≡ datum_of width (symbols_of t) (row k)
   coded_at k m h =
       sym (ap (datum_of width (symbols_of t)) (row_at k m h)
-      ∙ data_come_back_law width (symbols_of t) model.some (symbols_stand_once_law t) (flat_item_of t m).type (env (place k)) (is_datum k m h))
+      ∙ data_come_back_law width (symbols_of t) model.some (symbols_are_distinct_law t) (flat_item_of t m).type (env (place k)) (is_datum k m h))
 
   codes : IsCoded t width place row env
   codes = record {

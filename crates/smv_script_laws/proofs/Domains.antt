@@ -47,7 +47,7 @@ use Rattle.smv_script.specs.Codes.{integer_bits, integer_word, number_or_zero, d
 use Rattle.smv_script.specs.Operators.{between_term}
 use Rattle.smv_script.specs.Script.{member_term, domain_parts, symbol_sort}
 use Rattle.smv_script_laws.specs.Kinds.{IsKnown, IsOfKind}
-use Rattle.smv_script_laws.specs.TermLaws.{IsDatum, StandOnce}
+use Rattle.smv_script_laws.specs.TermLaws.{IsDatum, AreDistinct}
 use Rattle.smv_script_laws.proofs.Integers.{bits_below, signed_back}
 use Rattle.smv_script_laws.proofs.Rows.{equal_row}
 use Rattle.smv_script_laws.proofs.Parts.{held_wider, known_kind, any_of, any_value}
@@ -191,12 +191,12 @@ signed_fits n b one l = by (nat_lt b (2 ^ (n - 1))) refl
     by true e = let low : b < 2 ^ (n - 1) = ltb-true b (2 ^ (n - 1)) e in (omega (arith, ints, low), omega (arith, ints, low))
     by false e = let low : 2 ^ (n - 1) ≤ b = ltb-false b (2 ^ (n - 1)) e in let s = half n one in (omega (arith, ints, low, s, l), omega (arith, ints, low, s, l))
 
-symbol_kind : (width : ℕ) (symbols : List (List ℕ)) → StandOnce symbols → (i : ℕ) → i < length symbols → IsOfKind width symbols symbol_type (symbol_value symbols i)
+symbol_kind : (width : ℕ) (symbols : List (List ℕ)) → AreDistinct symbols → (i : ℕ) → i < length symbols → IsOfKind width symbols symbol_type (symbol_value symbols i)
 symbol_kind width symbols once i h =
     let e = slice_get-get_or symbols i [] h in
     subst (λ v. IsOfKind width symbols symbol_type v) (sym (ap symbol_or_none e)) (i, once i (get_or symbols i []) e)
 
-pub datum_kind : (width : ℕ) (symbols : List (List ℕ)) → 1 ≤ width → StandOnce symbols → (t : ExprType) (d : Datum) → IsDatum width symbols t d → IsOfKind width symbols t (value_of symbols t d)
+pub datum_kind : (width : ℕ) (symbols : List (List ℕ)) → 1 ≤ width → AreDistinct symbols → (t : ExprType) (d : Datum) → IsDatum width symbols t d → IsOfKind width symbols t (value_of symbols t d)
 datum_kind width symbols some once truth_type (datum.Truth b) h = tt
 datum_kind width symbols some once truth_type d h = absurd h
 datum_kind width symbols some once (integer_type low high) (datum.Bits w) h =

@@ -29,7 +29,7 @@ none_in x (z ∷ ys) h y i = by (λ g j. none_in x ys g y j) (bytes_eq x z) refl
     by ih false e g (inl s) = ap (bytes_eq x) s ∙ e
     by ih false e g (inr s) = ih (after (place_of ys x) g) s
 
--- a name that stands before differs from each one that follows
+-- a name that is before differs from each one that follows
 fresh_apart : (before names : List (List ℕ)) → are_fresh before names ≡ true → (y : List ℕ) → In y before → (n : ℕ) (x : List ℕ) → slice_get names n ≡ Some x → bytes_eq x y ≡ false
 fresh_apart before [] h y i n x e = cc
 fresh_apart before (z ∷ names) h y i zero x e =

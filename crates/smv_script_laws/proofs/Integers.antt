@@ -185,7 +185,7 @@ bits_rest w a b s h k n =
     ∙ signed_bits w (nat_abs a % nat_abs b) (is_negative a) (let l = held_small w a s h in omega (arith, mod-le (nat_abs a) (nat_abs b)))
     ∙ ap (integer_bits w) (sym (rest_is a b))
 
--- ---- signs that stand twice
+-- ---- signs that occur twice
 
 minus_twice : (a : ℕ) → neg_ℤ (neg_ℤ (pos a)) ≡ pos a
 minus_twice a = omega (arith, ints)

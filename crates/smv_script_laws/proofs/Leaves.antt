@@ -27,7 +27,7 @@ use Rattle.smv_flat_laws.proofs.FlatRows.{pair_parts}
 pub some_inj : {X : Type 0} (a b : X) → Some a ≡ Some b → a ≡ b
 some_inj a b h = cc
 
--- an element stands at some place
+-- an element is at some place
 pub in_at : {X : Type 0} (x : X) (xs : List X) → In x xs → (k : ℕ) × (slice_get xs k ≡ Some x)
 in_at x [] h = absurd h
 in_at x (y ∷ ys) (inl e) = (0, ap Some (sym e))

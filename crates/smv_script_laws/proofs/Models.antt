@@ -33,7 +33,7 @@ use Rattle.smv_width.specs.FlatWidth.{integers_width, tree_width, items_width, f
 use Rattle.smv_width.specs.SourceWidth.{has_operators}
 use Rattle.smv_script.specs.Codes.{number_or_zero, datum_of}
 use Rattle.smv_script_laws.specs.Kinds.{IsKnown}
-use Rattle.smv_script_laws.proofs.Parts.{LeafStands}
+use Rattle.smv_script_laws.proofs.Parts.{LeafIsRepresented}
 use Rattle.smv_script_laws.proofs.Bodies.{all_there, IsBody, IsGood, OriginIsGood, origins_good, HasForms, body_forms_have, forms_within}
 
 -- the checks hold, literals are words, chains have operators, and the width holds each integer
@@ -155,13 +155,13 @@ pub record IsCoded (t : List Instance) (width : ℕ) (place : ℕ → ℕ) (row 
   pub coded : (k : ℕ) → k < length (flat_of t).items → env (place k) ≡ datum_of width (symbols_of t) (row k)
 
 leaf_stands : (t : List Instance) (width : ℕ) (place : ℕ → ℕ) (row : Row) (env : Values) → IsCoded t width place row env → (l : Leaf) → IsPlaced t l
-    → LeafStands width (symbols_of t) place env l (leaf_value (symbol_value (symbols_of t)) row l)
+    → LeafIsRepresented width (symbols_of t) place env l (leaf_value (symbol_value (symbols_of t)) row l)
 leaf_stands t width place row env r (of_item k) p = (r.coded k p, r.known k p)
 leaf_stands t width place row env r (of_symbol s) p =
     let e : symbol_value (symbols_of t) s ≡ Symbol p.0 = ap symbol_or_none p.1 in
-    subst (λ v. LeafStands width (symbols_of t) place env (of_symbol s) v) (sym e) (ap (λ n. datum.Constant 0 n) (sym (ap number_or_zero p.2)), (s, p.2))
+    subst (λ v. LeafIsRepresented width (symbols_of t) place env (of_symbol s) v) (sym e) (ap (λ n. datum.Constant 0 n) (sym (ap number_or_zero p.2)), (s, p.2))
 leaf_stands t width place row env r of_nothing p = (refl, tt)
 
 pub found_stands : (t : List Instance) (width : ℕ) (place : ℕ → ℕ) (row : Row) (env : Values) → IsCoded t width place row env → (m : Found)
-    → LeafStands width (symbols_of t) place env (leaf_found t m) (leaf_value (symbol_value (symbols_of t)) row (leaf_found t m))
+    → LeafIsRepresented width (symbols_of t) place env (leaf_found t m) (leaf_value (symbol_value (symbols_of t)) row (leaf_found t m))
 found_stands t width place row env r m = leaf_stands t width place row env r (leaf_found t m) (leaf_placed t m)

@@ -104,8 +104,8 @@ leaf_datum place env (of_symbol s) = datum.Constant 0 s
 leaf_datum place env of_nothing = datum.Truth false
 
 -- a path's leaf has the code of its value, which is known
-abbrev pub LeafStands : ℕ → List (List ℕ) → (ℕ → ℕ) → Values → Leaf → Value → Type 0
-LeafStands width symbols place env l v = (leaf_datum place env l ≡ datum_of width symbols v) × IsKnown symbols v
+abbrev pub LeafIsRepresented : ℕ → List (List ℕ) → (ℕ → ℕ) → Values → Leaf → Value → Type 0
+LeafIsRepresented width symbols place env l v = (leaf_datum place env l ≡ datum_of width symbols v) × IsKnown symbols v
 
 pub truth_code : (width : ℕ) (symbols : List (List ℕ)) (v : Value) → truth_of (datum_of width symbols v) ≡ is_true v
 truth_code width symbols (Truth b) = refl
@@ -382,7 +382,7 @@ logical_all t u (s ∷ ss) h k =
     logical_trans (word_type m) u s h k = cc
     logical_trans t u s h k = cc
 
--- what stands before a link, with these values bound: its term has the code of its value, which lies in its type
+-- what is before a link, with these values bound: its term has the code of its value, which lies in its type
 pub record Front (width : ℕ) (symbols : List (List ℕ)) (calls : Calls) (now later : Values) (vals : List Datum) (t : ExprType) (v : Value) (m : ℕ) (a : Tree) : Type 0 where
   pub value : term_value calls now later vals a ≡ datum_of width symbols v
   pub lies : LiesIn t v

@@ -16,7 +16,7 @@ use Rattle.smv_script_laws.specs.BoundLaws.{BracketsAreFew}
 use Rattle.smv_script_laws.proofs.Measures.{open_brackets, all_brackets}
 use Rattle.smv_script_laws.proofs.Lows.{FormsFit, FormulasLow, formula_low, all_reachables_low, source_forms_fit}
 use Rattle.moxi_script_print.proofs.Depths.{call_depth, joined_depths, lists_depth, operator_depth, queries_depth, symbols_depth, value_depth}
-use Rattle.moxi_scripts.specs.Whole.{check_variables, formula_names}
+use Rattle.moxi_scripts.specs.Valid.{check_variables, formula_names}
 
 -- ---- terms
 

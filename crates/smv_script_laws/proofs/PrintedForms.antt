@@ -206,7 +206,7 @@ module _ (t : List Instance) (acyclic : Acyclic t) (fresh : ItemsDiffer t) (type
 
   -- ---- bodies
 
-  -- these items stand in the model from this number on
+  -- these items are in the model from this number on
   abbrev pub StandFrom : ℕ → List Origin → Type 0
   StandFrom k ms = (n : ℕ) (m : Origin) → slice_get ms n ≡ Some m → slice_get (origins_of t) (k + n) ≡ Some m
 

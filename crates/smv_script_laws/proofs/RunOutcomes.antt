@@ -14,7 +14,7 @@ use Rattle.smv_meaning.specs.Phases.{IsAccepted}
 use Rattle.smv_meaning.specs.Runs.{no_values, label_fits, step_holds, is_broken}
 use Rattle.smv_laws.proofs.SafeExpressions.{accepted_is_checked_law}
 use Rattle.smv_flat.specs.FlatForms.{flat_smv}
-use Rattle.smv_accepted.proofs.ItemNames.{names_stand_once_law}
+use Rattle.smv_accepted.proofs.ItemNames.{names_are_distinct_law}
 use Rattle.smv_accepted.proofs.Literals.{words_fit_law}
 use Rattle.smv_width.specs.FlatWidth.{width_of}
 use Rattle.smv_width.proofs.SpelledWidths.{instances_operators}
@@ -108,7 +108,7 @@ module _ (source : PlainSource) (end : Place) (text : List ℕ) (xs : List Token
   default_fits =
       default_label_fits (instances_of source) width
       (model (instances_of source) (accepted_is_checked_law source needed accepted) (words_fit_law source end text xs lexed spelled) (instances_operators source xs spelled.0))
-      (names_stand_once_law source end text xs lexed spelled needed accepted)
+      (names_are_distinct_law source end text xs lexed spelled needed accepted)
 
   module _ (k : ℕ) (states labels : ℕ → Valuation) (s : Steps (instances_of source) states labels k) where
     -- the label of a step; behind the last transition any one

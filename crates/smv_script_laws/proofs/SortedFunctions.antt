@@ -21,7 +21,7 @@ use Rattle.moxi_terms.specs.declared.term.Enumeration.{Enumeration}
 use Rattle.moxi_terms.specs.Sorts.{calculated}
 use Rattle.moxi_terms.specs.Tree.{Tree, bound, apply, Trees, no_trees, tree}
 use Rattle.moxi_term_reading.specs.declared.locals.Local.{Local}
-use Rattle.moxi_term_print.specs.Standing.{Stands, StandEach}
+use Rattle.moxi_term_print.specs.WellScoped.{IsWellScoped, AreWellScoped}
 use Rattle.smv_script.specs.Codes.{sort_of}
 use Rattle.smv_script.specs.Operators.{one, word_term, integer_term, words_term, counted_term, counted_terms, sum_term, extended_term, is_below, Arguments, function_term}
 use Rattle.smv_script_laws.proofs.Applied.{ctx, one_stand, words_stand, equal_stands, choice_stands, many_stand, word_stands, integer_stands, extended_stands}
@@ -44,10 +44,10 @@ held_width width m some held = by (nat_lt width m) refl
 
 module _ (w : ℕ) (some : 1 ≤ w) (most : w ≤ WIDEST) (es : List Enumeration) (vars : List Local) (primes : Primes) (bounds : List Local) where
   abbrev Has : Tree → ExprType → Type 0
-  Has a t = Stands (ctx es vars primes) bounds a (sort_of w t)
+  Has a t = IsWellScoped (ctx es vars primes) bounds a (sort_of w t)
 
   abbrev HaveTypes : Trees → List ExprType → Type 0
-  HaveTypes ts us = StandEach (ctx es vars primes) bounds ts (map (sort_of w) us)
+  HaveTypes ts us = AreWellScoped (ctx es vars primes) bounds ts (map (sort_of w) us)
 
   -- one argument, and two
   one_part : (P : Trees → Type 0) (t : ExprType) → ((a : Tree) → Has a t → P (tree a no_trees)) → (ts : Trees) → HaveTypes ts (t ∷ []) → P ts
@@ -62,7 +62,7 @@ module _ (w : ℕ) (some : 1 ≤ w) (most : w ≤ WIDEST) (es : List Enumeration
   two_parts P t u f (tree a (tree b (tree c more))) h = absurd h.1.1
 
   abbrev Calls : Function → Arguments → Trees → Sort → Type 0
-  Calls f args ts s = Stands (ctx es vars primes) bounds (function_term w (length bounds) f args ts) s
+  Calls f args ts s = IsWellScoped (ctx es vars primes) bounds (function_term w (length bounds) f args ts) s
 
   pub bool_stands : (args : Arguments) (us : List ExprType) (ts : Trees) → function_fits OfFunction.Bool us ≡ true → HaveTypes ts us → Calls OfFunction.Bool args ts Truth
   bool_stands args [] ts h i = absurd_bool h
@@ -71,7 +71,7 @@ module _ (w : ℕ) (some : 1 ≤ w) (most : w ≤ WIDEST) (es : List Enumeration
       let b = both_true (is_word_type t) (type_width t == 1) h in
       one_part (λ ts. Calls OfFunction.Bool args ts Truth) t
       (λ a j. equal_stands es vars primes bounds (Bits 1) a (word_term 1 1)
-      (word_cases (λ t. (type_width t == 1) ≡ true → Has a t → Stands (ctx es vars primes) bounds a (Bits 1)) (λ m e k. subst (λ n. Stands (ctx es vars primes) bounds a (Bits n)) (eqb-true m 1 e) k) t b.0 b.1 j)
+      (word_cases (λ t. (type_width t == 1) ≡ true → Has a t → IsWellScoped (ctx es vars primes) bounds a (Bits 1)) (λ m e k. subst (λ n. IsWellScoped (ctx es vars primes) bounds a (Bits n)) (eqb-true m 1 e) k) t b.0 b.1 j)
       (word_stands es vars primes bounds 1 1 (omega arith) (omega arith) (omega arith))) ts i
 
   pub word1_stands : (args : Arguments) (us : List ExprType) (ts : Trees) → function_fits OfFunction.Word1 us ≡ true → HaveTypes ts us → Calls OfFunction.Word1 args ts (Bits 1)
@@ -79,32 +79,32 @@ module _ (w : ℕ) (some : 1 ≤ w) (most : w ≤ WIDEST) (es : List Enumeration
   word1_stands args (t ∷ u ∷ us) ts h i = absurd_bool h
   word1_stands args (t ∷ []) ts h i =
       one_part (λ ts. Calls OfFunction.Word1 args ts (Bits 1)) t
-      (λ a j. choice_stands es vars primes bounds (Bits 1) a (word_term 1 1) (word_term 1 0) (truth_case (λ t. Has a t → Stands (ctx es vars primes) bounds a Truth) (λ k. k) t h j)
+      (λ a j. choice_stands es vars primes bounds (Bits 1) a (word_term 1 1) (word_term 1 0) (truth_case (λ t. Has a t → IsWellScoped (ctx es vars primes) bounds a Truth) (λ k. k) t h j)
       (word_stands es vars primes bounds 1 1 (omega arith) (omega arith) (omega arith)) (word_stands es vars primes bounds 1 0 (omega arith) (omega arith) (omega arith))) ts i
 
   pub toint_stands : (args : Arguments) (us : List ExprType) (ts : Trees) → args.width ≡ type_width (first_type us) → Holds w (pos (2 ^ type_width (first_type us) - 1)) → function_fits OfFunction.Toint us ≡ true → HaveTypes ts us → Calls OfFunction.Toint args ts (Bits w)
   toint_stands args [] ts e held h i = absurd_bool h
   toint_stands args (t ∷ u ∷ us) ts e held h i = absurd_bool h
   toint_stands args (t ∷ []) ts e held h i = one_part (λ ts. Calls OfFunction.Toint args ts (Bits w)) t
-      (λ a j. word_cases (λ t. args.width ≡ type_width t → Holds w (pos (2 ^ type_width t - 1)) → Has a t → Stands (ctx es vars primes) bounds (extended_term (w - args.width) a) (Bits w))
+      (λ a j. word_cases (λ t. args.width ≡ type_width t → Holds w (pos (2 ^ type_width t - 1)) → Has a t → IsWellScoped (ctx es vars primes) bounds (extended_term (w - args.width) a) (Bits w))
       (λ m e held k.
       let l = held_width w m some held in
       let s : m + (w - m) ≡ w = omega (arith, l) in
-      subst (λ n. Stands (ctx es vars primes) bounds (extended_term (w - n) a) (Bits w)) (sym e)
-      (subst (λ n. Stands (ctx es vars primes) bounds (extended_term (w - m) a) (Bits n)) s (extended_stands es vars primes bounds (w - m) m a (omega (arith, s, most)) k))) t h e held j) ts i
+      subst (λ n. IsWellScoped (ctx es vars primes) bounds (extended_term (w - n) a) (Bits w)) (sym e)
+      (subst (λ n. IsWellScoped (ctx es vars primes) bounds (extended_term (w - m) a) (Bits n)) s (extended_stands es vars primes bounds (w - m) m a (omega (arith, s, most)) k))) t h e held j) ts i
 
-  counted_all : (us : List ExprType) (ts : Trees) → list_all is_truth_type us ≡ true → HaveTypes ts us → StandEach (ctx es vars primes) bounds (counted_terms w ts) (copies (Bits w) (counted_terms w ts))
+  counted_all : (us : List ExprType) (ts : Trees) → list_all is_truth_type us ≡ true → HaveTypes ts us → AreWellScoped (ctx es vars primes) bounds (counted_terms w ts) (copies (Bits w) (counted_terms w ts))
   counted_all [] no_trees h i = tt
   counted_all (u ∷ us) no_trees h i = absurd i
   counted_all [] (tree a ts) h i = absurd i
   counted_all (u ∷ us) (tree a ts) h i =
       let b = both_true (is_truth_type u) (list_all is_truth_type us) h in (
-        choice_stands es vars primes bounds (Bits w) a (integer_term w (pos 1)) (integer_term w (pos 0)) (truth_case (λ t. Has a t → Stands (ctx es vars primes) bounds a Truth) (λ k. k) u b.0 i.0)
+        choice_stands es vars primes bounds (Bits w) a (integer_term w (pos 1)) (integer_term w (pos 0)) (truth_case (λ t. Has a t → IsWellScoped (ctx es vars primes) bounds a Truth) (λ k. k) u b.0 i.0)
             (integer_stands es vars primes bounds w (pos 1) some most) (integer_stands es vars primes bounds w (pos 0) some most),
         counted_all us ts b.1 i.1,
       )
 
-  sum_stands : (a : Tree) (ts : Trees) → StandEach (ctx es vars primes) bounds (tree a ts) (copies (Bits w) (tree a ts)) → Stands (ctx es vars primes) bounds (sum_term (tree a ts)) (Bits w)
+  sum_stands : (a : Tree) (ts : Trees) → AreWellScoped (ctx es vars primes) bounds (tree a ts) (copies (Bits w) (tree a ts)) → IsWellScoped (ctx es vars primes) bounds (sum_term (tree a ts)) (Bits w)
   sum_stands a no_trees i = i.0
   sum_stands a (tree b more) i =
       many_stand es vars primes bounds (op.BvBinary OnWords.Add) (Bits w) (Bits w) a (tree b more) refl (le-leb 2 (length (copies (Bits w) (tree a (tree b more)))) (omega arith)) (λ e. ap (calculated OnWords.Add) e) i
@@ -114,10 +114,10 @@ module _ (w : ℕ) (some : 1 ≤ w) (most : w ≤ WIDEST) (es : List Enumeration
   count_stands args (t ∷ us) no_trees h i = absurd i
   count_stands args (t ∷ us) (tree a ts) h i = sum_stands (counted_term w a) (counted_terms w ts) (counted_all (t ∷ us) (tree a ts) h i)
 
-  integer_has : (a : Tree) (t : ExprType) → is_integer_type t ≡ true → Has a t → Stands (ctx es vars primes) bounds a (Bits w)
-  integer_has a t h i = integer_case (λ t. Has a t → Stands (ctx es vars primes) bounds a (Bits w)) (λ c d k. k) t h i
+  integer_has : (a : Tree) (t : ExprType) → is_integer_type t ≡ true → Has a t → IsWellScoped (ctx es vars primes) bounds a (Bits w)
+  integer_has a t h i = integer_case (λ t. Has a t → IsWellScoped (ctx es vars primes) bounds a (Bits w)) (λ c d k. k) t h i
 
-  below : Stands (ctx es vars primes) (bounds ++ two_bound (Bits w) (Bits w)) (is_below (length bounds)) Truth
+  below : IsWellScoped (ctx es vars primes) (bounds ++ two_bound (Bits w) (Bits w)) (is_below (length bounds)) Truth
   below = words_stand es vars primes (bounds ++ two_bound (Bits w) (Bits w)) OnWords.Slt w Truth (bound (length bounds)) (bound (length bounds + 1)) refl refl
       (first_stands (ctx es vars primes) bounds (Bits w) (Bits w)) (second_stands (ctx es vars primes) bounds (Bits w) (Bits w))
 

@@ -24,7 +24,7 @@ use Rattle.moxi_terms.specs.declared.term.Enumeration.{Enumeration}
 use Rattle.moxi_terms.specs.Sorts.{common, count_fits, logical, calculated, fitting, op_sort}
 use Rattle.moxi_terms.specs.Tree.{Tree, apply, Trees, tree}
 use Rattle.moxi_term_reading.specs.declared.locals.Local.{Local}
-use Rattle.moxi_term_print.specs.Standing.{Stands, StandEach}
+use Rattle.moxi_term_print.specs.WellScoped.{IsWellScoped, AreWellScoped}
 use Rattle.smv_script.specs.Codes.{sort_of}
 use Rattle.smv_script.specs.Operators.{one, two, words_term, equal_term, sign_op, repeated, infix_op, joins_with, infix_term}
 use Rattle.smv_script_laws.proofs.Rows.{is_plain}
@@ -223,7 +223,7 @@ module _ (w : ℕ) where
 
   module _ (es : List Enumeration) (vars : List Local) (primes : Primes) (bounds : List Local) where
     abbrev Has : Tree → ExprType → Type 0
-    Has a t = Stands (ctx es vars primes) bounds a (sort_of w t)
+    Has a t = IsWellScoped (ctx es vars primes) bounds a (sort_of w t)
 
     pub sign_stands : (sign : Prefix) (n : ℕ) (t : ExprType) (a : Tree) → prefix_fits sign t ≡ true → Has a t → Has (repeated (sign_op sign (is_word_type t)) n a) t
     sign_stands OfPrefix.Not n truth_type a h i = repeated_stands es vars primes bounds op.Not n Truth a refl refl i
@@ -242,10 +242,10 @@ module _ (w : ℕ) where
     truths : (o : TermOp) (a b : Tree) → is_known o ≡ true → op_sort o (Truth ∷ Truth ∷ []) ≡ Ok Truth → Has a truth_type → Has b truth_type → Has (apply o (two a b)) truth_type
     truths o a b h e i j = two_stand es vars primes bounds o Truth Truth Truth a b h e i j
 
-    on_words : (o : Binary) (m : ℕ) (z : Sort) (a b : Tree) → is_written o ≡ true → calculated o (Some (Bits m)) ≡ Ok z → Has a (word_type m) → Has b (word_type m) → Stands (ctx es vars primes) bounds (words_term o a b) z
+    on_words : (o : Binary) (m : ℕ) (z : Sort) (a b : Tree) → is_written o ≡ true → calculated o (Some (Bits m)) ≡ Ok z → Has a (word_type m) → Has b (word_type m) → IsWellScoped (ctx es vars primes) bounds (words_term o a b) z
     on_words o m z a b h e i j = words_stand es vars primes bounds o m z a b h e i j
 
-    on_integers : (o : Binary) (z : Sort) (a b : Tree) → is_written o ≡ true → calculated o (Some (Bits w)) ≡ Ok z → Stands (ctx es vars primes) bounds a (Bits w) → Stands (ctx es vars primes) bounds b (Bits w) → Stands (ctx es vars primes) bounds (words_term o a b) z
+    on_integers : (o : Binary) (z : Sort) (a b : Tree) → is_written o ≡ true → calculated o (Some (Bits w)) ≡ Ok z → IsWellScoped (ctx es vars primes) bounds a (Bits w) → IsWellScoped (ctx es vars primes) bounds b (Bits w) → IsWellScoped (ctx es vars primes) bounds (words_term o a b) z
     on_integers o z a b h e i j = words_stand es vars primes bounds o w z a b h e i j
 
     -- the operator on words that an operator of terms is
@@ -260,8 +260,8 @@ module _ (w : ℕ) where
     infix_stands Implies l r x p h k = logical_cases (Row Implies x) (λ a b i j. truths op.Implies a b refl refl i j) (λ m a b i j. on_words OnWords.Or m (Bits m) (apply (op.BvUnary OnWord.Not) (one a)) b refl refl (turned m a i) j) l r h
     infix_stands Iff l r x p h k = logical_cases (Row Iff x) (λ a b i j. equal_stands es vars primes bounds Truth a b i j) (λ m a b i j. turned m (words_term OnWords.Xor a b) (on_words OnWords.Xor m (Bits m) a b refl refl i j)) l r h
     infix_stands Xnor l r x p h k = logical_cases (Row Xnor x) (λ a b i j. not_stands es vars primes bounds (apply op.Xor (two a b)) (truths op.Xor a b refl refl i j)) (λ m a b i j. turned m (words_term OnWords.Xor a b) (on_words OnWords.Xor m (Bits m) a b refl refl i j)) l r h
-    infix_stands Equal l r x p h k = λ a b i j. equal_stands es vars primes bounds (sort_of w l) a b i (subst (Stands (ctx es vars primes) bounds b) (same_sort_of l r h) j)
-    infix_stands Unequal l r x p h k = λ a b i j. not_stands es vars primes bounds (equal_term a b) (equal_stands es vars primes bounds (sort_of w l) a b i (subst (Stands (ctx es vars primes) bounds b) (same_sort_of l r h) j))
+    infix_stands Equal l r x p h k = λ a b i j. equal_stands es vars primes bounds (sort_of w l) a b i (subst (IsWellScoped (ctx es vars primes) bounds b) (same_sort_of l r h) j)
+    infix_stands Unequal l r x p h k = λ a b i j. not_stands es vars primes bounds (equal_term a b) (equal_stands es vars primes bounds (sort_of w l) a b i (subst (IsWellScoped (ctx es vars primes) bounds b) (same_sort_of l r h) j))
     infix_stands Less l r x p h k = number_cases (Row Less x) (λ c d e f a b i j. on_integers OnWords.Slt Truth a b refl refl i j) (λ m a b i j. on_words OnWords.Ult m Truth a b refl refl i j) l r h
     infix_stands Greater l r x p h k = number_cases (Row Greater x) (λ c d e f a b i j. on_integers OnWords.Sgt Truth a b refl refl i j) (λ m a b i j. on_words OnWords.Ugt m Truth a b refl refl i j) l r h
     infix_stands LessEq l r x p h k = number_cases (Row LessEq x) (λ c d e f a b i j. on_integers OnWords.Slte Truth a b refl refl i j) (λ m a b i j. on_words OnWords.Ulte m Truth a b refl refl i j) l r h
@@ -269,9 +269,9 @@ module _ (w : ℕ) where
     infix_stands Plus l r x p h k = number_cases (Row Plus x) (λ c d e f a b i j. on_integers OnWords.Add (Bits w) a b refl refl i j) (λ m a b i j. on_words OnWords.Add m (Bits m) a b refl refl i j) l r h
     infix_stands Minus l r x p h k = number_cases (Row Minus x) (λ c d e f a b i j. on_integers OnWords.Sub (Bits w) a b refl refl i j) (λ m a b i j. on_words OnWords.Sub m (Bits m) a b refl refl i j) l r h
     infix_stands Times l r x p h k = number_cases (Row Times x) (λ c d e f a b i j. on_integers OnWords.Mul (Bits w) a b refl refl i j) (λ m a b i j. on_words OnWords.Mul m (Bits m) a b refl refl i j) l r h
-    infix_stands Divide l r x p h k = λ a b i j. subst (Stands (ctx es vars primes) bounds (infix_term Divide (is_word_type r) a b)) (sym (quotient_sort l (divisor_of x)))
+    infix_stands Divide l r x p h k = λ a b i j. subst (IsWellScoped (ctx es vars primes) bounds (infix_term Divide (is_word_type r) a b)) (sym (quotient_sort l (divisor_of x)))
         (number_cases (λ l r. (a b : Tree) → Has a l → Has b r → Has (infix_term Divide (is_word_type r) a b) l) (λ c d e f a b i j. on_integers OnWords.Sdiv (Bits w) a b refl refl i j) (λ m a b i j. on_words OnWords.Udiv m (Bits m) a b refl refl i j) l r h a b i j)
-    infix_stands Mod l r x p h k = λ a b i j. subst (Stands (ctx es vars primes) bounds (infix_term Mod (is_word_type r) a b)) (sym (rest_sort l (divisor_of x)))
+    infix_stands Mod l r x p h k = λ a b i j. subst (IsWellScoped (ctx es vars primes) bounds (infix_term Mod (is_word_type r) a b)) (sym (rest_sort l (divisor_of x)))
         (number_cases (λ l r. (a b : Tree) → Has a l → Has b r → Has (infix_term Mod (is_word_type r) a b) l) (λ c d e f a b i j. on_integers OnWords.Srem (Bits w) a b refl refl i j) (λ m a b i j. on_words OnWords.Urem m (Bits m) a b refl refl i j) l r h a b i j)
     infix_stands Concat l r x p h k =
         let f = both_true (is_word_type l) (is_word_type r) h in
@@ -286,10 +286,10 @@ module _ (w : ℕ) where
 
     -- a chain of one sign, of two or more operands
     abbrev Many : Infix → ExprType → ExprType → Type 0
-    Many o l r = (t s : Tree) (ts : Trees) → StandEach (ctx es vars primes) bounds (tree t (tree s ts)) (copies (sort_of w l) (tree t (tree s ts))) → Has (apply (infix_op o (is_word_type r)) (tree t (tree s ts))) l
+    Many o l r = (t s : Tree) (ts : Trees) → AreWellScoped (ctx es vars primes) bounds (tree t (tree s ts)) (copies (sort_of w l) (tree t (tree s ts))) → Has (apply (infix_op o (is_word_type r)) (tree t (tree s ts))) l
 
     many : (o : TermOp) (z : Sort) (t s : Tree) (ts : Trees) → is_known o ≡ true → ((n : ℕ) → 2 ≤ n → count_fits o n ≡ true) → (common (z ∷ copies z (tree s ts)) ≡ Some z → fitting o (copies z (tree t (tree s ts))) ≡ Ok z)
-        → StandEach (ctx es vars primes) bounds (tree t (tree s ts)) (copies z (tree t (tree s ts))) → Stands (ctx es vars primes) bounds (apply o (tree t (tree s ts))) z
+        → AreWellScoped (ctx es vars primes) bounds (tree t (tree s ts)) (copies z (tree t (tree s ts))) → IsWellScoped (ctx es vars primes) bounds (apply o (tree t (tree s ts))) z
     many o z t s ts h c f i = many_stand es vars primes bounds o z z t (tree s ts) h (c (length (copies z (tree t (tree s ts)))) (omega arith)) f i
 
     two_most : (n : ℕ) → 2 ≤ n → nat_le 2 n ≡ true

@@ -28,7 +28,7 @@ use Rattle.moxi_term_reading.specs.Finding.{Found, first_of}
 use Rattle.moxi_term_reading.specs.Reading.{Context, meaning_of, names_of}
 use Rattle.moxi_term_reading.specs.Answer.{locals_of}
 use Rattle.moxi_term_print.specs.Terms.{name_at, variable_names}
-use Rattle.moxi_term_print.specs.Standing.{Stands, StandsPrime}
+use Rattle.moxi_term_print.specs.WellScoped.{IsWellScoped, IsAllowedPrime}
 use Rattle.smv_script.specs.Script.{Group, inputs, outputs, locals, items_in, kind_letter, variable_of, variables_in, place_of_item}
 use Rattle.smv_script_laws.specs.PlaceLaws.{all_variables}
 use Rattle.smv_script_laws.proofs.Places.{is_place_of_law}
@@ -158,8 +158,8 @@ variable_found c name v s e =
 
 module _ (es : List Enumeration) (vs : List Variable) (primes : Primes) (free : AllByRecursion IsFree (variable_names vs)) where
   -- a variable's name means it, whatever is bound around
-  pub variable_stands : AllDiffer (variable_names vs) → (bounds : List Local) → AreLetNames bounds → (v : ℕ) (x : Variable) (primed : Bool) → slice_get vs v ≡ Some x → StandsPrime primes primed
-      → Stands (ctx es (locals_of vs) primes) bounds (variable v primed) x.sort
+  pub variable_stands : AllDiffer (variable_names vs) → (bounds : List Local) → AreLetNames bounds → (v : ℕ) (x : Variable) (primed : Bool) → slice_get vs v ≡ Some x → IsAllowedPrime primes primed
+      → IsWellScoped (ctx es (locals_of vs) primes) bounds (variable v primed) x.sort
   variable_stands differ bounds lets v x primed h p =
       let f = all_at IsFree (variable_names vs) v x.name free (named_at vs v x h) in (
         ap (meaning_of (ctx es (locals_of vs) primes) bounds) (name_of vs v x h)
@@ -180,7 +180,7 @@ module _ (es : List Enumeration) (vs : List Variable) (primes : Primes) (free : 
   no_variable name a = ap (λ (o : Option Found). or_else (option_map (λ (f : Found). meaning.Variable f.number f.sort) o) (value_or name)) (no_first 0 vs name a)
 
   -- `true` and `false`
-  pub truth_stands : (b : Bool) (bounds : List Local) → AreLetNames bounds → Stands (ctx es (locals_of vs) primes) bounds (constant (datum.Truth b)) sort.Truth
+  pub truth_stands : (b : Bool) (bounds : List Local) → AreLetNames bounds → IsWellScoped (ctx es (locals_of vs) primes) bounds (constant (datum.Truth b)) sort.Truth
   truth_stands true bounds lets =
       (refl, past_lets (ctx es (locals_of vs) primes) bounds lets (codes "true") refl refl ∙ no_variable (codes "true") (weaker (λ (other : List ℕ). bytes_eq (codes "true") other ≡ false) (λ x f. f.no_true) (variable_names vs) free))
   truth_stands false bounds lets =

@@ -3,7 +3,7 @@ use Rattle.std.proofs.Common.{◌≡◌, ℕ, Bool, true, false, not, ◌&&◌, 
 use Rattle.std.specs.List.{list_all}
 use Rattle.smv_meaning.specs.laws.Booleans.{both_true}
 use Rattle.moxi_sexpr.specs.Bytes.{is_barred_byte}
-use Rattle.moxi_sexpr.specs.Atoms.{is_simple, may_stand}
+use Rattle.moxi_sexpr.specs.Atoms.{is_simple, may_appear}
 use Rattle.moxi_sexpr.specs.Printing.{is_among, reserved_words}
 use Rattle.moxi_term_print.specs.StandingNames.{IsSpellable}
 
@@ -13,4 +13,4 @@ pick P false x y h k = k refl
 
 pub barred_spellable : (x : List ℕ) → list_all is_barred_byte x ≡ true → IsSpellable x
 barred_spellable x h =
-    pick (λ s. IsTrue (may_stand s x)) (is_simple x && not (is_among x reserved_words)) _ _ (λ e. (both_true (is_simple x) (not (is_among x reserved_words)) e).0) (λ e. h)
+    pick (λ s. IsTrue (may_appear s x)) (is_simple x && not (is_among x reserved_words)) _ _ (λ e. (both_true (is_simple x) (not (is_among x reserved_words)) e).0) (λ e. h)

@@ -36,7 +36,7 @@ use Rattle.smv_script.specs.Operators.{equal_term}
 use Rattle.smv_script.specs.Terms.{Coding, translation}
 use Rattle.smv_script.specs.Script.{Group, inputs, outputs, locals, group_of, same_group, items_in, kind_letter, variable_of, variables_in, coding_of, all_term, member_term, domain_parts, body_part, body_parts, invar_item, trans_item, item_parts, is_following, form_parts, numbered_parts, instance_parts, parts_upto, above_items, above_forms, formula_of, symbol_sort, reachables_from, queries_from}
 use Rattle.smv_script_laws.proofs.Constants.{constant_of}
-use Rattle.smv_script_laws.specs.WholeLaws.{NamesAreSpellable as AllNames}
+use Rattle.smv_script_laws.specs.ValidLaws.{NamesAreSpellable as AllNames}
 use Rattle.smv_script_laws.proofs.Spellable.{barred_spellable}
 use Rattle.smv_script_laws.proofs.SpellableTerms.{any_named, translation_named}
 use Rattle.smv_script_laws.proofs.WholeScripts.{few_invariants}

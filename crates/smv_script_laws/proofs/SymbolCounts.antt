@@ -1,4 +1,4 @@
--- Each symbol of a model stands in the body of one of its modules.
+-- Each symbol of a model is in the body of one of its modules.
 use Rattle.std.proofs.Common.{ℕ, zero, suc, ◌+◌, ◌≤◌, Bool, true, false, if◌then◌else◌, List, [], ◌∷◌, ◌++◌, length, length-append, Option, Some, None, arith}
 use Rattle.std.specs.Prelude.{bytes_eq, flat_map, sum_by}
 use Rattle.std.specs.List.{AllByRecursion}

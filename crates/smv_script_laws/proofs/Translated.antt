@@ -35,7 +35,7 @@ use Rattle.moxi_terms.specs.declared.term.Enumeration.{Enumeration}
 use Rattle.moxi_terms.specs.Sorts.{calculated}
 use Rattle.moxi_terms.specs.Tree.{Tree, constant, variable, bound, apply, tree}
 use Rattle.moxi_term_reading.specs.declared.locals.Local.{Local}
-use Rattle.moxi_term_print.specs.Standing.{Stands, StandEach, StandsPrime}
+use Rattle.moxi_term_print.specs.WellScoped.{IsWellScoped, AreWellScoped, IsAllowedPrime}
 use Rattle.smv_script.specs.Codes.{sort_of}
 use Rattle.smv_script.specs.Operators.{word_term, integer_term, words_term, extended_term, any_term, sign_op, repeated, infix_op, joins_with, infix_term, front_width, link_term, selected_term, resized_term, function_term, among_term}
 use Rattle.smv_script.specs.Terms.{is_word_in, is_word, width_in, word_width, amount_of, is_name, arguments_of, Translation, value_translation, set_translation, choice_translation, are_flat_unions, all_join_with, Coding, translation, implied_term, folded_term, link_terms, link_members, chosen_translation, taken_translation, terms, members}
@@ -43,7 +43,7 @@ use Rattle.smv_script_laws.proofs.Rows.{is_plain}
 use Rattle.smv_script_laws.proofs.Typings.{call_typed, front_no_union, front_typed, implies_flat, implies_typed, linked_typed, node_typed, range_typed, right_no_union, set_typed, some_same, type_kept, unions_flat}
 use Rattle.smv_script_laws.proofs.Parts.{IsAsWide, amount_is, extend_fits, extend_second, joins_plain, joins_same, logical_all, number_kept, pick_three, resize_fits, resize_second, toint_held, wide_kept, wide_of}
 use Rattle.smv_script_laws.specs.LetNames.{AreLetNames}
-use Rattle.smv_script_laws.specs.Standing.{CanStand}
+use Rattle.smv_script_laws.specs.WellScoped.{CanAppear}
 use Rattle.smv_script_laws.proofs.Applied.{ctx, equal_stands, choice_stands, words_stand, word_stands, integer_stands, extended_stands, selected_stands, resized_stands, any_stands, between_stands, is_written}
 use Rattle.smv_script_laws.proofs.Bounds.{one_bound, one_let, one_long, one_stands}
 use Rattle.smv_script_laws.proofs.SortedRows.{TypeFits, infix_kept, word_cases, truth_case, same_sort_of, hull_sort, hull_of_sorts, prefix_sort, joined_sort, joined_type, sign_stands, infix_stands, joined_stands}
@@ -108,23 +108,23 @@ abs_sort w (symbol_type ∷ []) h = absurd_bool h
 abs_sort w (word_type n ∷ []) h = absurd_bool h
 
 module _ (c : Coding) (enums : List Enumeration) (vars : List Local) (primes : Primes) (some : 1 ≤ c.width) (most : c.width ≤ WIDEST)
-    (truths : (b : Bool) (bounds : List Local) → AreLetNames bounds → Stands (ctx enums vars primes) bounds (constant (datum.Truth b)) sort.Truth)
+    (truths : (b : Bool) (bounds : List Local) → AreLetNames bounds → IsWellScoped (ctx enums vars primes) bounds (constant (datum.Truth b)) sort.Truth)
     (names : Path → Named) (leaf : Path → Leaf) (f : Path → Value) (hf : NamesLie names f)
-    (leaves : (under : Bool) → StandsPrime primes under → (x : Path) (t : ExprType) → (names x).type ≡ Some t → (bounds : List Local) → AreLetNames bounds
-    → Stands (ctx enums vars primes) bounds ((translation c (leaf_tree (Some t) under (leaf x))).term (length bounds)) (sort_of c.width t)) where
+    (leaves : (under : Bool) → IsAllowedPrime primes under → (x : Path) (t : ExprType) → (names x).type ≡ Some t → (bounds : List Local) → AreLetNames bounds
+    → IsWellScoped (ctx enums vars primes) bounds ((translation c (leaf_tree (Some t) under (leaf x))).term (length bounds)) (sort_of c.width t)) where
   abbrev Has : List Local → Tree → ExprType → Type 0
-  Has bounds a t = Stands (ctx enums vars primes) bounds a (sort_of c.width t)
+  Has bounds a t = IsWellScoped (ctx enums vars primes) bounds a (sort_of c.width t)
 
   abbrev Can : ExprType → Bool → Translation → Type 0
-  Can t sets x = CanStand (ctx enums vars primes) (sort_of c.width t) sets x
+  Can t sets x = CanAppear (ctx enums vars primes) (sort_of c.width t) sets x
 
-  as_sort : (s r : Sort) (sets : Bool) (x : Translation) → s ≡ r → CanStand (ctx enums vars primes) s sets x → CanStand (ctx enums vars primes) r sets x
-  as_sort s r sets x e h = subst (λ z. CanStand (ctx enums vars primes) z sets x) e h
+  as_sort : (s r : Sort) (sets : Bool) (x : Translation) → s ≡ r → CanAppear (ctx enums vars primes) s sets x → CanAppear (ctx enums vars primes) r sets x
+  as_sort s r sets x e h = subst (λ z. CanAppear (ctx enums vars primes) z sets x) e h
 
-  any_can : (s : Sort) (sets : Bool) (x : Translation) → CanStand (ctx enums vars primes) s false x → CanStand (ctx enums vars primes) s sets x
+  any_can : (s : Sort) (sets : Bool) (x : Translation) → CanAppear (ctx enums vars primes) s false x → CanAppear (ctx enums vars primes) s sets x
   any_can s sets x h = record { value = λ z. h.value refl; member = h.member }
 
-  value_can : (s : Sort) (sets : Bool) (term : ℕ → Tree) → ((bounds : List Local) → AreLetNames bounds → Stands (ctx enums vars primes) bounds (term (length bounds)) s) → CanStand (ctx enums vars primes) s sets (value_translation term)
+  value_can : (s : Sort) (sets : Bool) (term : ℕ → Tree) → ((bounds : List Local) → AreLetNames bounds → IsWellScoped (ctx enums vars primes) bounds (term (length bounds)) s) → CanAppear (ctx enums vars primes) s sets (value_translation term)
   value_can s sets term h = record {
     value = λ z bounds l. h bounds l;
     member = λ bounds l y i. equal_stands enums vars primes bounds s y (term (length bounds)) i (h bounds l);
@@ -137,8 +137,8 @@ module _ (c : Coding) (enums : List Enumeration) (vars : List Local) (primes : P
   leaf_can under of_nothing o t sets h = value_can (sort_of c.width t) sets (λ n. constant (datum.Truth false)) h
 
   -- a choice, of parts that have one sort
-  choice_can : (s : Sort) (sets : Bool) (q a b : Translation) → ((bounds : List Local) → AreLetNames bounds → Stands (ctx enums vars primes) bounds (q.term (length bounds)) sort.Truth)
-      → CanStand (ctx enums vars primes) s sets a → CanStand (ctx enums vars primes) s sets b → CanStand (ctx enums vars primes) s sets (choice_translation q a b)
+  choice_can : (s : Sort) (sets : Bool) (q a b : Translation) → ((bounds : List Local) → AreLetNames bounds → IsWellScoped (ctx enums vars primes) bounds (q.term (length bounds)) sort.Truth)
+      → CanAppear (ctx enums vars primes) s sets a → CanAppear (ctx enums vars primes) s sets b → CanAppear (ctx enums vars primes) s sets (choice_translation q a b)
   choice_can s sets q a b i j k = record {
     value = λ z bounds l. choice_stands enums vars primes bounds s (q.term (length bounds)) (a.term (length bounds)) (b.term (length bounds)) (i bounds l) (j.value z bounds l) (k.value z bounds l);
     member = λ bounds l y h. choice_stands enums vars primes bounds sort.Truth (q.term (length bounds)) (a.member (length bounds) y) (b.member (length bounds) y) (i bounds l) (j.member bounds l y h) (k.member bounds l y h);
@@ -146,20 +146,20 @@ module _ (c : Coding) (enums : List Enumeration) (vars : List Local) (primes : P
 
   -- an operand that has what is asked, in any position
   abbrev Each : Bool → Expression → Type 0
-  Each under e = (q : Position) → StandsPrime primes q.nexts → expression_width names q e ≤ c.width → (t : ExprType) → (typing names q e).type ≡ Some t → Can t q.sets (translation c (flat_tree names leaf q under e))
+  Each under e = (q : Position) → IsAllowedPrime primes q.nexts → expression_width names q e ≤ c.width → (t : ExprType) → (typing names q e).type ≡ Some t → Can t q.sets (translation c (flat_tree names leaf q under e))
 
   type_held : (at : Position) (e : Expression) → expression_width names at e ≤ c.width → (t : ExprType) → (typing names at e).type ≡ Some t → integers_width t ≤ c.width
   type_held at e l t h = subst (λ o. node_width o ≤ c.width) h (let s : node_width (typing names at e).type ≤ expression_width names at e = source_node names at e in omega (arith, s, l))
 
-  among_stands : (bounds : List Local) → AreLetNames bounds → (named : Bool) (a : Tree) (s : Sort) (sets : Bool) (x : Translation) → CanStand (ctx enums vars primes) s sets x → Stands (ctx enums vars primes) bounds a s
-      → Stands (ctx enums vars primes) bounds (among_term named (length bounds) a x.member) sort.Truth
+  among_stands : (bounds : List Local) → AreLetNames bounds → (named : Bool) (a : Tree) (s : Sort) (sets : Bool) (x : Translation) → CanAppear (ctx enums vars primes) s sets x → IsWellScoped (ctx enums vars primes) bounds a s
+      → IsWellScoped (ctx enums vars primes) bounds (among_term named (length bounds) a x.member) sort.Truth
   among_stands bounds l true a s sets x h i = h.member bounds l a i
   among_stands bounds l false a s sets x h i = (
     s ∷ [],
     omega arith,
     refl,
     (i, tt),
-    subst (λ n. Stands (ctx enums vars primes) (bounds ++ one_bound s) (x.member n (bound (length bounds))) sort.Truth) (one_long bounds s)
+    subst (λ n. IsWellScoped (ctx enums vars primes) (bounds ++ one_bound s) (x.member n (bound (length bounds))) sort.Truth) (one_long bounds s)
         (h.member (bounds ++ one_bound s) (one_let bounds s l) (bound (length bounds)) (one_stands (ctx enums vars primes) bounds s)),
   )
 
@@ -177,11 +177,11 @@ module _ (c : Coding) (enums : List Enumeration) (vars : List Local) (primes : P
       (λ k l i j w.
       let p = below_power k in
       words_stand enums vars primes bounds b k (sort.Bits k) a (word_term m amount) wr (op k) i
-      (subst (λ z. Stands (ctx enums vars primes) bounds (word_term z amount) (sort.Bits k)) w
+      (subst (λ z. IsWellScoped (ctx enums vars primes) bounds (word_term z amount) (sort.Bits k)) w
       (word_stands enums vars primes bounds k amount j.0 j.1 (omega (arith, p, l, e))))) t fits l h.stands h.fits h.wide
 
   module _ (under : Bool) where
-    plain_can : (q : Position) → StandsPrime primes q.nexts → q.sets ≡ false → (p : Place) (a : Typing) (ta : ExprType) → a.type ≡ Some ta → (i : Infix) → is_plain i ≡ true → (x : Expression) → has_operators x ≡ true → Each under x
+    plain_can : (q : Position) → IsAllowedPrime primes q.nexts → q.sets ≡ false → (p : Place) (a : Typing) (ta : ExprType) → a.type ≡ Some ta → (i : Infix) → is_plain i ≡ true → (x : Expression) → has_operators x ≡ true → Each under x
         → operand_width i (expression_width names (behind i q) x) ≤ c.width → (tf : ExprType) → (front i q p a (typing names (behind i q) x) x).type ≡ Some tf
         → (bounds : List Local) → AreLetNames bounds → (named : Bool) (m : ℕ) (acc : Tree) → Front bounds ta m acc
         → Front bounds tf (front_width i m (word_width (flat_tree names leaf (behind i q) under x)))
@@ -191,7 +191,7 @@ module _ (c : Coding) (enums : List Enumeration) (vars : List Local) (primes : P
         let same : ta ≡ r.left = some_same ta r.left (sym e ∙ r.left_is) in
         let xt = translation c (flat_tree names leaf (behind i q) under x) in
         let free = plain_sets i q plain in
-        let j = hx (behind i q) (subst (StandsPrime primes) (sym (behind_nexts i q)) n) (subst (λ n. n ≤ c.width) (plain_width i (expression_width names (behind i q) x) plain) l) r.right r.right_is in
+        let j = hx (behind i q) (subst (IsAllowedPrime primes) (sym (behind_nexts i q)) n) (subst (λ n. n ≤ c.width) (plain_width i (expression_width names (behind i q) x) plain) l) r.right r.right_is in
         let kept = type_kept names leaf (behind i q) under x o free r.right r.right_is in
         record {
           stands =
@@ -204,7 +204,7 @@ module _ (c : Coding) (enums : List Enumeration) (vars : List Local) (primes : P
               (subst (λ z. IsAsWide (infix_type i r.left r.right x) (front_width i m z)) (sym (ap width_in kept)) (wide_kept i r.left r.right x m r.fits (subst (λ z. IsAsWide z m) same b.wide)));
         }
 
-    front_can : (q : Position) → StandsPrime primes q.nexts → q.sets ≡ false → (p : Place) (a : Typing) (ta : ExprType) → a.type ≡ Some ta → (i : Infix) (x : Expression) → has_operators x ≡ true → Each under x
+    front_can : (q : Position) → IsAllowedPrime primes q.nexts → q.sets ≡ false → (p : Place) (a : Typing) (ta : ExprType) → a.type ≡ Some ta → (i : Infix) (x : Expression) → has_operators x ≡ true → Each under x
         → operand_width i (expression_width names (behind i q) x) ≤ c.width → (tf : ExprType) → (front i q p a (typing names (behind i q) x) x).type ≡ Some tf
         → (bounds : List Local) → AreLetNames bounds → (named : Bool) (m : ℕ) (acc : Tree) → Front bounds ta m acc
         → Front bounds tf (front_width i m (word_width (flat_tree names leaf (behind i q) under x)))
@@ -212,7 +212,7 @@ module _ (c : Coding) (enums : List Enumeration) (vars : List Local) (primes : P
     front_can q n s p a ta e Member x o hx l tf h bounds lets named m acc b =
         let r = front_typed Member q p a.type (typing names (with_sets q) x).type x tf h in
         let same : ta ≡ r.left = some_same ta r.left (sym e ∙ r.left_is) in
-        let y : Has bounds acc r.right = subst (Stands (ctx enums vars primes) bounds acc) (sym (same_sort_of c.width r.left r.right r.fits)) (subst (λ z. Has bounds acc z) same b.stands) in
+        let y : Has bounds acc r.right = subst (IsWellScoped (ctx enums vars primes) bounds acc) (sym (same_sort_of c.width r.left r.right r.fits)) (subst (λ z. Has bounds acc z) same b.stands) in
         record {
           stands = subst (λ z. Has bounds (among_term named (length bounds) acc (translation c (flat_tree names leaf (with_sets q) under x)).member) z) r.whole
               (among_stands bounds lets named acc (sort_of c.width r.right) true (translation c (flat_tree names leaf (with_sets q) under x)) (hx (with_sets q) n l r.right r.right_is) y);
@@ -246,24 +246,24 @@ module _ (c : Coding) (enums : List Enumeration) (vars : List Local) (primes : P
     -- ---- what is asked of the parts of a chain
 
     abbrev Folds : Links → Type 0
-    Folds ls = (q : Position) → StandsPrime primes q.nexts → q.sets ≡ false → (p : Place) (a : Typing) (ta : ExprType) → a.type ≡ Some ta → fronts_width names q p a ls ≤ c.width → (t : ExprType) → (linked names q p a ls).type ≡ Some t
+    Folds ls = (q : Position) → IsAllowedPrime primes q.nexts → q.sets ≡ false → (p : Place) (a : Typing) (ta : ExprType) → a.type ≡ Some ta → fronts_width names q p a ls ≤ c.width → (t : ExprType) → (linked names q p a ls).type ≡ Some t
         → (bounds : List Local) → AreLetNames bounds → (m : ℕ) (acc : Tree) → Front bounds ta m acc → Has bounds (folded_term c (length bounds) m acc (flat_links names leaf q under ls)) t
 
     abbrev Joins : Links → Type 0
-    Joins ls = (q : Position) → StandsPrime primes q.nexts → q.sets ≡ false → (p : Place) (a : Typing) (ta : ExprType) → a.type ≡ Some ta → (j : Infix) → joins_with j j ≡ true → fronts_width names q p a ls ≤ c.width → (t : ExprType) → (linked names q p a ls).type ≡ Some t
+    Joins ls = (q : Position) → IsAllowedPrime primes q.nexts → q.sets ≡ false → (p : Place) (a : Typing) (ta : ExprType) → a.type ≡ Some ta → (j : Infix) → joins_with j j ≡ true → fronts_width names q p a ls ≤ c.width → (t : ExprType) → (linked names q p a ls).type ≡ Some t
         → all_join_with j (flat_links names leaf q under ls) ≡ true
-        → (sort_of c.width t ≡ sort_of c.width ta) × ((bounds : List Local) → AreLetNames bounds → StandEach (ctx enums vars primes) bounds (link_terms c (length bounds) (flat_links names leaf q under ls)) (copies (sort_of c.width ta) (link_terms c (length bounds) (flat_links names leaf q under ls))))
+        → (sort_of c.width t ≡ sort_of c.width ta) × ((bounds : List Local) → AreLetNames bounds → AreWellScoped (ctx enums vars primes) bounds (link_terms c (length bounds) (flat_links names leaf q under ls)) (copies (sort_of c.width ta) (link_terms c (length bounds) (flat_links names leaf q under ls))))
 
     abbrev Unions : Links → Type 0
-    Unions ls = (q : Position) → StandsPrime primes q.nexts → (p : Place) (a : Typing) (ta : ExprType) → a.type ≡ Some ta → fronts_width names q p a ls ≤ c.width → are_unions ls ≡ true → (t : ExprType) → (linked names q p a ls).type ≡ Some t
+    Unions ls = (q : Position) → IsAllowedPrime primes q.nexts → (p : Place) (a : Typing) (ta : ExprType) → a.type ≡ Some ta → fronts_width names q p a ls ≤ c.width → are_unions ls ≡ true → (t : ExprType) → (linked names q p a ls).type ≡ Some t
         → (sort_of c.width t ≡ sort_of c.width ta) × ((bounds : List Local) → AreLetNames bounds → (y : Tree) → Has bounds y ta
-        → StandEach (ctx enums vars primes) bounds (link_members c (length bounds) y (flat_links names leaf q under ls)) (copies sort.Truth (link_members c (length bounds) y (flat_links names leaf q under ls))))
+        → AreWellScoped (ctx enums vars primes) bounds (link_members c (length bounds) y (flat_links names leaf q under ls)) (copies sort.Truth (link_members c (length bounds) y (flat_links names leaf q under ls))))
 
     abbrev Implications : Links → Type 0
-    Implications ls = (at : Position) → StandsPrime primes at.nexts → (u : ExprType) (us : List ExprType) → implied_width names (single at) ls ≤ c.width → all_types (link_types names (single at) ls) ≡ Some us → list_all (logical_fits u) us ≡ true → are_implies ls ≡ true
+    Implications ls = (at : Position) → IsAllowedPrime primes at.nexts → (u : ExprType) (us : List ExprType) → implied_width names (single at) ls ≤ c.width → all_types (link_types names (single at) ls) ≡ Some us → list_all (logical_fits u) us ≡ true → are_implies ls ≡ true
         → (bounds : List Local) → AreLetNames bounds → (a : Tree) → Has bounds a u → Has bounds (implied_term c (length bounds) a (flat_links names leaf (single at) under ls)) u
 
-    left_can : (q : Position) → StandsPrime primes q.nexts → q.sets ≡ false → (p : Place) (e : Expression) (i : Infix) (x : Expression) (ls : Links) → has_operators e ≡ true → has_operators x ≡ true → Each under e → Each under x → Folds ls
+    left_can : (q : Position) → IsAllowedPrime primes q.nexts → q.sets ≡ false → (p : Place) (e : Expression) (i : Infix) (x : Expression) (ls : Links) → has_operators e ≡ true → has_operators x ≡ true → Each under e → Each under x → Folds ls
         → expression_width names q e ≤ c.width → fronts_width names q p (typing names q e) (link i x ls) ≤ c.width → (t : ExprType) → (linked names q p (typing names q e) (link i x ls)).type ≡ Some t
         → (bounds : List Local) → AreLetNames bounds
         → Has bounds (folded_term c (length bounds) (front_width i (word_width (flat_tree names leaf q under e)) (word_width (flat_tree names leaf (behind i q) under x)))
@@ -283,7 +283,7 @@ module _ (c : Coding) (enums : List Enumeration) (vars : List Local) (primes : P
         fold q n s p fr r.0 r.1 (omega (arith, wl)) t h bounds lets (front_width i (word_width (flat_tree names leaf q under e)) (word_width (flat_tree names leaf (behind i q) under x))) _
         (front_can q n s p a y.left y.left_is i x ox hx (omega (arith, wl)) r.0 r.1 bounds lets (is_name (flat_tree names leaf q under e)) (word_width (flat_tree names leaf q under e)) ((translation c (flat_tree names leaf q under e)).term (length bounds)) b)
 
-    one_sign_can : (q : Position) → StandsPrime primes q.nexts → q.sets ≡ false → (p : Place) (e : Expression) (i : Infix) (x : Expression) (ls : Links) → has_operators x ≡ true → Each under e → Joins (link i x ls)
+    one_sign_can : (q : Position) → IsAllowedPrime primes q.nexts → q.sets ≡ false → (p : Place) (e : Expression) (i : Infix) (x : Expression) (ls : Links) → has_operators x ≡ true → Each under e → Joins (link i x ls)
         → expression_width names q e ≤ c.width → fronts_width names q p (typing names q e) (link i x ls) ≤ c.width → (t : ExprType) → (linked names q p (typing names q e) (link i x ls)).type ≡ Some t
         → joins_with i i ≡ true → all_join_with i (flat_links names leaf q under ls) ≡ true → (bounds : List Local) → AreLetNames bounds
         → Has bounds (apply (infix_op i (is_word (flat_tree names leaf (behind i q) under x))) (tree ((translation c (flat_tree names leaf q under e)).term (length bounds)) (tree ((translation c (flat_tree names leaf (behind i q) under x)).term (length bounds)) (link_terms c (length bounds) (flat_links names leaf q under ls))))) t
@@ -297,10 +297,10 @@ module _ (c : Coding) (enums : List Enumeration) (vars : List Local) (primes : P
         let k = one_sign q n s p a y.left y.left_is i j wl t h (two_true (joins_with i i) (all_join_with i (flat_links names leaf q under ls)) j all) in
         let ts = tree ((translation c (flat_tree names leaf q under e)).term (length bounds)) (tree ((translation c (flat_tree names leaf (behind i q) under x)).term (length bounds)) (link_terms c (length bounds) (flat_links names leaf q under ls))) in
         subst (λ w. Has bounds (apply (infix_op i w) ts) t) (sym (ap is_word_in (type_kept names leaf (behind i q) under x ox free y.right y.right_is)))
-        (subst (Stands (ctx enums vars primes) bounds (apply (infix_op i (is_word_type y.right)) ts)) (sym k.0)
+        (subst (IsWellScoped (ctx enums vars primes) bounds (apply (infix_op i (is_word_type y.right)) ts)) (sym k.0)
         (joined_stands c.width enums vars primes bounds i y.left y.right j y.fits _ _ _ (z.value s bounds lets, k.1 bounds lets)))
 
-    union_can : (at : Position) → StandsPrime primes at.nexts → (p : Place) (e : Expression) (i : Infix) (x : Expression) (ls : Links) → Each under e → Unions (link i x ls)
+    union_can : (at : Position) → IsAllowedPrime primes at.nexts → (p : Place) (e : Expression) (i : Infix) (x : Expression) (ls : Links) → Each under e → Unions (link i x ls)
         → expression_width names at e ≤ c.width → fronts_width names at p (typing names at e) (link i x ls) ≤ c.width → (t : ExprType) → (linked names at p (typing names at e) (link i x ls)).type ≡ Some t
         → are_unions (link i x ls) ≡ true
         → Can t at.sets (set_translation (λ k y. any_term (tree ((translation c (flat_tree names leaf at under e)).member k y) (tree ((translation c (flat_tree names leaf (behind i at) under x)).member k y) (link_members c k y (flat_links names leaf at under ls))))))
@@ -311,12 +311,12 @@ module _ (c : Coding) (enums : List Enumeration) (vars : List Local) (primes : P
         record {
           value = λ s. absurd_bool (no s);
           member = λ bounds lets y i'.
-              let here : Has bounds y r.0 = subst (Stands (ctx enums vars primes) bounds y) m.0 i' in
+              let here : Has bounds y r.0 = subst (IsWellScoped (ctx enums vars primes) bounds y) m.0 i' in
               any_stands enums vars primes bounds (truths false bounds lets) (tree ((translation c (flat_tree names leaf at under e)).member (length bounds) y) (link_members c (length bounds) y (flat_links names leaf at under (link i x ls))))
               ((he at n we r.0 r.1).member bounds lets y here, m.1 bounds lets y here);
         }
 
-    right_can : (at : Position) → StandsPrime primes at.nexts → (p : Place) (e : Expression) (i : Infix) (x : Expression) (ls : Links) → Each under e → Implications (link i x ls)
+    right_can : (at : Position) → IsAllowedPrime primes at.nexts → (p : Place) (e : Expression) (i : Infix) (x : Expression) (ls : Links) → Each under e → Implications (link i x ls)
         → max (expression_width names (single at) e) (implied_width names (single at) (link i x ls)) ≤ c.width → (t : ExprType)
         → (if passes (check 16 p (on_all (all_types ((typing names (single at) e).type ∷ link_types names (single at) (link i x ls))) implies_fits) ∷ []) then option_map first_type (all_types ((typing names (single at) e).type ∷ link_types names (single at) (link i x ls))) else None) ≡ Some t
         → is_from_right (link i x ls) ≡ true → (bounds : List Local) → AreLetNames bounds
@@ -329,12 +329,12 @@ module _ (c : Coding) (enums : List Enumeration) (vars : List Local) (primes : P
         let z = he (single at) n (omega (arith, w)) k.0 k.2 in
         subst (λ u. Has bounds (implied_term c (length bounds) ((translation c (flat_tree names leaf (single at) under e)).term (length bounds)) (flat_links names leaf (single at) under (link i x ls))) u) same (implied at n k.0 k.1 (omega (arith, w)) k.3 fits r bounds lets ((translation c (flat_tree names leaf (single at) under e)).term (length bounds)) (z.value refl bounds lets))
 
-    chain_can : (at : Position) → StandsPrime primes at.nexts → (p : Place) (e : Expression) (i : Infix) (x : Expression) (ls : Links) → has_operators (chain p e (link i x ls)) ≡ true → Each under e → Each under x → Folds ls → Joins (link i x ls) → Unions (link i x ls) → Implications (link i x ls)
+    chain_can : (at : Position) → IsAllowedPrime primes at.nexts → (p : Place) (e : Expression) (i : Infix) (x : Expression) (ls : Links) → has_operators (chain p e (link i x ls)) ≡ true → Each under e → Each under x → Folds ls → Joins (link i x ls) → Unions (link i x ls) → Implications (link i x ls)
         → expression_width names at (chain p e (link i x ls)) ≤ c.width
         → (t : ExprType) → (typing names at (chain p e (link i x ls))).type ≡ Some t → Can t at.sets (translation c (flat_tree names leaf at under (chain p e (link i x ls))))
     chain_can at n p e i x ls o he hx fold one_sign unions implied l t h =
         let q = across (link i x ls) at in
-        let nq : StandsPrime primes q.nexts = subst (StandsPrime primes) (sym (across_nexts (link i x ls) at)) n in
+        let nq : IsAllowedPrime primes q.nexts = subst (IsAllowedPrime primes) (sym (across_nexts (link i x ls) at)) n in
         let fls = flat_links names leaf q under ls in
         let wi = width_if (is_from_right (link i x ls)) (max (expression_width names (single at) e) (implied_width names (single at) (link i x ls))) (max (expression_width names q e) (fronts_width names q p (typing names q e) (link i x ls))) (node_width (typing names at (chain p e (link i x ls))).type) c.width l in
         let ti = typed_if (is_from_right (link i x ls)) _ (linked names q p (typing names q e) (link i x ls)) t h in
@@ -391,11 +391,11 @@ module _ (c : Coding) (enums : List Enumeration) (vars : List Local) (primes : P
         ap width_in (type_kept names leaf (single at) under e (both_true (has_operators e) (part_operators es) o).0 refl m.0 m.2) ∙ ap (λ z. type_width (first_type z)) m.4
 
     abbrev Called : Position → Function → Expressions → List Local → Sort → Type 0
-    Called at fn es bounds s = Stands (ctx enums vars primes) bounds (function_term c.width (length bounds) fn (arguments_of (flat_trees names leaf (single at) under es)) (terms c (length bounds) (flat_trees names leaf (single at) under es))) s
+    Called at fn es bounds s = IsWellScoped (ctx enums vars primes) bounds (function_term c.width (length bounds) fn (arguments_of (flat_trees names leaf (single at) under es)) (terms c (length bounds) (flat_trees names leaf (single at) under es))) s
 
-    call_can : (at : Position) → StandsPrime primes at.nexts → (fn : Function) (es : Expressions) → part_operators es ≡ true → FirstCan es
+    call_can : (at : Position) → IsAllowedPrime primes at.nexts → (fn : Function) (es : Expressions) → part_operators es ≡ true → FirstCan es
         → arguments_width fn (first_part_width names (single at) es) (part_width names (single at) es) ≤ c.width → (us : List ExprType) → all_types (tree_types names (single at) es) ≡ Some us
-        → (bounds : List Local) → AreLetNames bounds → (part_width names (single at) es ≤ c.width → StandEach (ctx enums vars primes) bounds (terms c (length bounds) (flat_trees names leaf (single at) under es)) (map (sort_of c.width) us))
+        → (bounds : List Local) → AreLetNames bounds → (part_width names (single at) es ≤ c.width → AreWellScoped (ctx enums vars primes) bounds (terms c (length bounds) (flat_trees names leaf (single at) under es)) (map (sort_of c.width) us))
         → function_fits fn us ≡ true → arguments_fit fn us (numbers_of es) ≡ true → integers_width (function_type fn us (numbers_of es)) ≤ c.width → Called at fn es bounds (sort_of c.width (function_type fn us (numbers_of es)))
     call_can at n OfFunction.Bool es o hfirst l us h bounds lets args fits numbers kept =
         bool_stands c.width some most enums vars primes bounds (arguments_of (flat_trees names leaf (single at) under es)) us (terms c (length bounds) (flat_trees names leaf (single at) under es)) fits (args l)
@@ -424,8 +424,8 @@ module _ (c : Coding) (enums : List Enumeration) (vars : List Local) (primes : P
         let k = all_cons (typing names (single at) e).type (tree_types names (single at) (expression (number q m) no_expressions)) us h in
         let same : r.0 ≡ first_type us = some_same r.0 k.0 (sym r.1 ∙ k.2) ∙ ap first_type k.4 in
         let x = (translation c (flat_tree names leaf (single at) under e)).term (length bounds) in
-        subst (λ z. Stands (ctx enums vars primes) bounds (extended_term m x) (sort.Bits (type_width z + m))) same
-        (word_cases (λ z. is_width (type_width z + m) ≡ true → Has bounds x z → Stands (ctx enums vars primes) bounds (extended_term m x) (sort.Bits (type_width z + m)))
+        subst (λ z. IsWellScoped (ctx enums vars primes) bounds (extended_term m x) (sort.Bits (type_width z + m))) same
+        (word_cases (λ z. is_width (type_width z + m) ≡ true → Has bounds x z → IsWellScoped (ctx enums vars primes) bounds (extended_term m x) (sort.Bits (type_width z + m)))
         (λ i w j. extended_stands enums vars primes bounds m i x (width_of (i + m) w).1 j) r.0 r.2 r.3 ((hfirst (single at) n l r.0 r.1).value refl bounds lets))
     call_can at n OfFunction.Extend es o hfirst l us h bounds lets args fits numbers kept = absurd (extend_second us (numbers_of es) numbers)
     call_can at n OfFunction.Resize (expression e (expression (number q m) no_expressions)) o hfirst l us h bounds lets args fits numbers kept =
@@ -433,17 +433,17 @@ module _ (c : Coding) (enums : List Enumeration) (vars : List Local) (primes : P
         let b = (both_true (has_operators e) true o).0 in
         let x = (translation c (flat_tree names leaf (single at) under e)).term (length bounds) in
         let d = width_of m r.3 in
-        subst (λ z. Stands (ctx enums vars primes) bounds (resized_term z m x) (sort.Bits m)) (sym (ap width_in (type_kept names leaf (single at) under e b refl r.0 r.1)))
-        (word_cases (λ z. TypeFits z → Has bounds x z → Stands (ctx enums vars primes) bounds (resized_term (type_width z) m x) (sort.Bits m))
+        subst (λ z. IsWellScoped (ctx enums vars primes) bounds (resized_term z m x) (sort.Bits m)) (sym (ap width_in (type_kept names leaf (single at) under e b refl r.0 r.1)))
+        (word_cases (λ z. TypeFits z → Has bounds x z → IsWellScoped (ctx enums vars primes) bounds (resized_term (type_width z) m x) (sort.Bits m))
         (λ i w j. resized_stands enums vars primes bounds i m x w.1 d.0 d.1 j) r.0 r.2 (type_fits names f hf (single at) refl e r.0 r.1) ((hfirst (single at) n l r.0 r.1).value refl bounds lets))
     call_can at n OfFunction.Resize es o hfirst l us h bounds lets args fits numbers kept = absurd (resize_second us (numbers_of es) numbers)
 
   -- a condition is a truth value
-  condition_stands : (t : ExprType) (x : Translation) → is_truth_type t ≡ true → Can t false x → (bounds : List Local) → AreLetNames bounds → Stands (ctx enums vars primes) bounds (x.term (length bounds)) sort.Truth
-  condition_stands t x b h bounds lets = truth_case (λ z. Has bounds (x.term (length bounds)) z → Stands (ctx enums vars primes) bounds (x.term (length bounds)) sort.Truth) (λ k. k) t b (h.value refl bounds lets)
+  condition_stands : (t : ExprType) (x : Translation) → is_truth_type t ≡ true → Can t false x → (bounds : List Local) → AreLetNames bounds → IsWellScoped (ctx enums vars primes) bounds (x.term (length bounds)) sort.Truth
+  condition_stands t x b h bounds lets = truth_case (λ z. Has bounds (x.term (length bounds)) z → IsWellScoped (ctx enums vars primes) bounds (x.term (length bounds)) sort.Truth) (λ k. k) t b (h.value refl bounds lets)
 
   mutual
-    pub can : (under : Bool) → StandsPrime primes under → (at : Position) → StandsPrime primes at.nexts → (e : Expression) → has_operators e ≡ true → expression_width names at e ≤ c.width → (t : ExprType) → (typing names at e).type ≡ Some t
+    pub can : (under : Bool) → IsAllowedPrime primes under → (at : Position) → IsAllowedPrime primes at.nexts → (e : Expression) → has_operators e ≡ true → expression_width names at e ≤ c.width → (t : ExprType) → (typing names at e).type ≡ Some t
         → Can t at.sets (translation c (flat_tree names leaf at under e))
     can under up at n (truth p b) o l t h = as_sort sort.Truth (sort_of c.width t) at.sets _ (ap (sort_of c.width) (some_same truth_type t h)) (value_can sort.Truth at.sets (λ k. constant (datum.Truth b)) (λ bounds lets. truths b bounds lets))
     can under up at n (number p m) o l t h =
@@ -489,8 +489,8 @@ module _ (c : Coding) (enums : List Enumeration) (vars : List Local) (primes : P
         let b = select_bounds r.0 high low r.3 in
         as_sort (sort.Bits (high - low + 1)) (sort_of c.width t) at.sets _ (ap (sort_of c.width) r.4)
         (value_can (sort.Bits (high - low + 1)) at.sets (λ k. selected_term (word_width (flat_tree names leaf (single at) under e)) high low (x.term k))
-        (λ bounds lets. subst (λ m. Stands (ctx enums vars primes) bounds (selected_term m high low (x.term (length bounds))) (sort.Bits (high - low + 1))) (sym (ap width_in (type_kept names leaf (single at) under e o refl r.0 r.1)))
-        (word_cases (λ z. TypeFits z → high < type_width z → Has bounds (x.term (length bounds)) z → Stands (ctx enums vars primes) bounds (selected_term (type_width z) high low (x.term (length bounds))) (sort.Bits (high - low + 1)))
+        (λ bounds lets. subst (λ m. IsWellScoped (ctx enums vars primes) bounds (selected_term m high low (x.term (length bounds))) (sort.Bits (high - low + 1))) (sym (ap width_in (type_kept names leaf (single at) under e o refl r.0 r.1)))
+        (word_cases (λ z. TypeFits z → high < type_width z → Has bounds (x.term (length bounds)) z → IsWellScoped (ctx enums vars primes) bounds (selected_term (type_width z) high low (x.term (length bounds))) (sort.Bits (high - low + 1)))
         (λ m w g j. selected_stands enums vars primes bounds high low m (x.term (length bounds)) w.1 g b.1 j) r.0 r.2 (type_fits names f hf (single at) refl e r.0 r.1) b.0 (i.value refl bounds lets))))
     can under up at n (call p fn es) o l t h =
         let r = call_typed p fn (all_types (tree_types names (single at) es)) (numbers_of es) t h in
@@ -503,7 +503,7 @@ module _ (c : Coding) (enums : List Enumeration) (vars : List Local) (primes : P
         let r = node_typed (passes (check 19 p at.nexts ∷ [])) (typing names under_next e).type t h in
         let now : at.nexts ≡ true = (both_true at.nexts true r.0).0 in
         any_can (sort_of c.width t) at.sets (translation c (flat_tree names leaf under_next true e))
-        (can true (subst (StandsPrime primes) now n) under_next (never_primed primes) e o (omega (arith, l)) t r.1)
+        (can true (subst (IsAllowedPrime primes) now n) under_next (never_primed primes) e o (omega (arith, l)) t r.1)
     can under up at n (set p es) o l t h =
         let r = set_typed p (all_types (tree_types names at es)) at.sets t h in
         record {
@@ -520,10 +520,10 @@ module _ (c : Coding) (enums : List Enumeration) (vars : List Local) (primes : P
           member = λ bounds lets y i. between_stands enums vars primes bounds c.width low high y some most (subst (λ z. Has bounds y z) (sym r.2) i);
         }
 
-    chosen_can : (under : Bool) → StandsPrime primes under → (at : Position) → StandsPrime primes at.nexts → (bs : Branches) (z : Option ExprType) (x : Translation) → ((u : ExprType) → z ≡ Some u → Can u at.sets x)
+    chosen_can : (under : Bool) → IsAllowedPrime primes under → (at : Position) → IsAllowedPrime primes at.nexts → (bs : Branches) (z : Option ExprType) (x : Translation) → ((u : ExprType) → z ≡ Some u → Can u at.sets x)
         → branch_operators bs ≡ true → branch_width names at bs ≤ c.width → (qs : List ExprType) → all_types (condition_types names (single at) bs) ≡ Some qs → list_all is_truth_type qs ≡ true
         → (us : List ExprType) → all_types (value_types names at bs (z ∷ [])) ≡ Some us → (s : Sort) → AllByRecursion (λ u. sort_of c.width u ≡ s) us
-        → CanStand (ctx enums vars primes) s at.sets (chosen_translation c (flat_branches names leaf at under bs) x)
+        → CanAppear (ctx enums vars primes) s at.sets (chosen_translation c (flat_branches names leaf at under bs) x)
     chosen_can under up at n no_branches z x i o l qs a g us h s all =
         let k = all_cons z [] us h in
         let d = subst (AllByRecursion (λ u. sort_of c.width u ≡ s)) (sym k.4) all in
@@ -540,10 +540,10 @@ module _ (c : Coding) (enums : List Enumeration) (vars : List Local) (primes : P
         (condition_stands m.0 (translation c (flat_tree names leaf (single at) under q)) g'.0 (can under up (single at) n q b.0 (omega (arith, l)) m.0 m.2)) (as_sort (sort_of c.width k.0) s at.sets _ d.0 (can under up at n v b'.0 (omega (arith, l)) k.0 k.2))
         (chosen_can under up at n rest z x i b'.1 (omega (arith, l)) m.1 m.3 g'.1 k.1 k.3 s d.1)
 
-    taken_can : (under : Bool) → StandsPrime primes under → (at : Position) → StandsPrime primes at.nexts → (bs : Branches) → is_last bs ≡ false → branch_operators bs ≡ true → branch_width names at bs ≤ c.width
+    taken_can : (under : Bool) → IsAllowedPrime primes under → (at : Position) → IsAllowedPrime primes at.nexts → (bs : Branches) → is_last bs ≡ false → branch_operators bs ≡ true → branch_width names at bs ≤ c.width
         → (qs : List ExprType) → all_types (condition_types names (single at) bs) ≡ Some qs → list_all is_truth_type qs ≡ true
         → (us : List ExprType) → all_types (value_types names at bs []) ≡ Some us → (s : Sort) → AllByRecursion (λ u. sort_of c.width u ≡ s) us
-        → CanStand (ctx enums vars primes) s at.sets (taken_translation c (flat_branches names leaf at under bs))
+        → CanAppear (ctx enums vars primes) s at.sets (taken_translation c (flat_branches names leaf at under bs))
     taken_can under up at n no_branches x o l qs a g us h s all = absurd_bool (sym x)
     taken_can under up at n (branch q v no_branches) x o l qs a g us h s all =
         let k = all_cons (typing names at v).type [] us h in
@@ -563,27 +563,27 @@ module _ (c : Coding) (enums : List Enumeration) (vars : List Local) (primes : P
         (condition_stands m.0 (translation c (flat_tree names leaf (single at) under q)) g'.0 (can under up (single at) n q b.0 (omega (arith, l)) m.0 m.2)) (as_sort (sort_of c.width k.0) s at.sets _ d.0 (can under up at n v b'.0 (omega (arith, l)) k.0 k.2))
         (taken_can under up at n (branch r w rest) refl b'.1 (omega (arith, l)) m.1 m.3 g'.1 k.1 k.3 s d.1)
 
-    members_can : (under : Bool) → StandsPrime primes under → (at : Position) → StandsPrime primes at.nexts → (es : Expressions) → part_operators es ≡ true → part_width names at es ≤ c.width → (us : List ExprType) → all_types (tree_types names at es) ≡ Some us
-        → (s : Sort) → AllByRecursion (λ u. sort_of c.width u ≡ s) us → (bounds : List Local) → AreLetNames bounds → (y : Tree) → Stands (ctx enums vars primes) bounds y s
-        → StandEach (ctx enums vars primes) bounds (members c (length bounds) y (flat_trees names leaf at under es)) (copies sort.Truth (members c (length bounds) y (flat_trees names leaf at under es)))
+    members_can : (under : Bool) → IsAllowedPrime primes under → (at : Position) → IsAllowedPrime primes at.nexts → (es : Expressions) → part_operators es ≡ true → part_width names at es ≤ c.width → (us : List ExprType) → all_types (tree_types names at es) ≡ Some us
+        → (s : Sort) → AllByRecursion (λ u. sort_of c.width u ≡ s) us → (bounds : List Local) → AreLetNames bounds → (y : Tree) → IsWellScoped (ctx enums vars primes) bounds y s
+        → AreWellScoped (ctx enums vars primes) bounds (members c (length bounds) y (flat_trees names leaf at under es)) (copies sort.Truth (members c (length bounds) y (flat_trees names leaf at under es)))
     members_can under up at n no_expressions o l us h s all bounds lets y i = tt
     members_can under up at n (expression e es) o l us h s all bounds lets y i =
         let m = all_cons (typing names at e).type (tree_types names at es) us h in
         let b = both_true (has_operators e) (part_operators es) o in
         let d = subst (AllByRecursion (λ u. sort_of c.width u ≡ s)) (sym m.4) all in
-        ((can under up at n e b.0 (omega (arith, l)) m.0 m.2).member bounds lets y (subst (Stands (ctx enums vars primes) bounds y) (sym d.0) i), members_can under up at n es b.1 (omega (arith, l)) m.1 m.3 s d.1 bounds lets y i)
+        ((can under up at n e b.0 (omega (arith, l)) m.0 m.2).member bounds lets y (subst (IsWellScoped (ctx enums vars primes) bounds y) (sym d.0) i), members_can under up at n es b.1 (omega (arith, l)) m.1 m.3 s d.1 bounds lets y i)
 
-    arguments_can : (under : Bool) → StandsPrime primes under → (at : Position) → StandsPrime primes at.nexts → (es : Expressions) → part_operators es ≡ true → part_width names (single at) es ≤ c.width → (us : List ExprType) → all_types (tree_types names (single at) es) ≡ Some us
-        → (bounds : List Local) → AreLetNames bounds → StandEach (ctx enums vars primes) bounds (terms c (length bounds) (flat_trees names leaf (single at) under es)) (map (sort_of c.width) us)
+    arguments_can : (under : Bool) → IsAllowedPrime primes under → (at : Position) → IsAllowedPrime primes at.nexts → (es : Expressions) → part_operators es ≡ true → part_width names (single at) es ≤ c.width → (us : List ExprType) → all_types (tree_types names (single at) es) ≡ Some us
+        → (bounds : List Local) → AreLetNames bounds → AreWellScoped (ctx enums vars primes) bounds (terms c (length bounds) (flat_trees names leaf (single at) under es)) (map (sort_of c.width) us)
     arguments_can under up at n no_expressions o l [] h bounds lets = tt
     arguments_can under up at n no_expressions o l (u ∷ us) h bounds lets = cc
     arguments_can under up at n (expression e es) o l us h bounds lets =
         let m = all_cons (typing names (single at) e).type (tree_types names (single at) es) us h in
         let b = both_true (has_operators e) (part_operators es) o in
-        subst (λ z. StandEach (ctx enums vars primes) bounds (terms c (length bounds) (flat_trees names leaf (single at) under (expression e es))) (map (sort_of c.width) z)) m.4
+        subst (λ z. AreWellScoped (ctx enums vars primes) bounds (terms c (length bounds) (flat_trees names leaf (single at) under (expression e es))) (map (sort_of c.width) z)) m.4
         ((can under up (single at) n e b.0 (omega (arith, l)) m.0 m.2).value refl bounds lets, arguments_can under up at n es b.1 (omega (arith, l)) m.1 m.3 bounds lets)
 
-    folded_can : (under : Bool) → StandsPrime primes under → (q : Position) → StandsPrime primes q.nexts → q.sets ≡ false → (p : Place) (a : Typing) (ta : ExprType) → a.type ≡ Some ta → (ls : Links) → link_operators ls ≡ true
+    folded_can : (under : Bool) → IsAllowedPrime primes under → (q : Position) → IsAllowedPrime primes q.nexts → q.sets ≡ false → (p : Place) (a : Typing) (ta : ExprType) → a.type ≡ Some ta → (ls : Links) → link_operators ls ≡ true
         → fronts_width names q p a ls ≤ c.width → (t : ExprType) → (linked names q p a ls).type ≡ Some t → (bounds : List Local) → AreLetNames bounds → (m : ℕ) (acc : Tree) → Front bounds ta m acc
         → Has bounds (folded_term c (length bounds) m acc (flat_links names leaf q under ls)) t
     folded_can under up q n s p a ta e no_links o l t h bounds lets m acc b = subst (λ z. Has bounds acc z) (some_same ta t (sym e ∙ h)) b.stands
@@ -594,9 +594,9 @@ module _ (c : Coding) (enums : List Enumeration) (vars : List Local) (primes : P
         folded_can under up q n s p fr r.0 r.1 ls k.1 (omega (arith, l)) t h bounds lets (front_width i m (word_width (flat_tree names leaf (behind i q) under x))) _
         (front_can under q n s p a ta e i x k.0 (λ z y w u d. can under up z y x k.0 w u d) (omega (arith, l)) r.0 r.1 bounds lets false m acc b)
 
-    joined_can : (under : Bool) → StandsPrime primes under → (q : Position) → StandsPrime primes q.nexts → q.sets ≡ false → (p : Place) (a : Typing) (ta : ExprType) → a.type ≡ Some ta → (j : Infix) → joins_with j j ≡ true → (ls : Links)
+    joined_can : (under : Bool) → IsAllowedPrime primes under → (q : Position) → IsAllowedPrime primes q.nexts → q.sets ≡ false → (p : Place) (a : Typing) (ta : ExprType) → a.type ≡ Some ta → (j : Infix) → joins_with j j ≡ true → (ls : Links)
         → link_operators ls ≡ true → fronts_width names q p a ls ≤ c.width → (t : ExprType) → (linked names q p a ls).type ≡ Some t → all_join_with j (flat_links names leaf q under ls) ≡ true
-        → (sort_of c.width t ≡ sort_of c.width ta) × ((bounds : List Local) → AreLetNames bounds → StandEach (ctx enums vars primes) bounds (link_terms c (length bounds) (flat_links names leaf q under ls)) (copies (sort_of c.width ta) (link_terms c (length bounds) (flat_links names leaf q under ls))))
+        → (sort_of c.width t ≡ sort_of c.width ta) × ((bounds : List Local) → AreLetNames bounds → AreWellScoped (ctx enums vars primes) bounds (link_terms c (length bounds) (flat_links names leaf q under ls)) (copies (sort_of c.width ta) (link_terms c (length bounds) (flat_links names leaf q under ls))))
     joined_can under up q n s p a ta e j d no_links o l t h all = (ap (sort_of c.width) (some_same t ta (sym h ∙ e)), (λ bounds lets. tt))
     joined_can under up q n s p a ta e j d (link i x ls) o l t h all =
         let k = both_true (has_operators x) (link_operators ls) o in
@@ -608,21 +608,21 @@ module _ (c : Coding) (enums : List Enumeration) (vars : List Local) (primes : P
         let r = linked_typed names q p fr ls t h in
         let y = front_typed i q p a.type (typing names (behind i q) x).type x r.0 r.1 in
         let same : ta ≡ y.left = some_same ta y.left (sym e ∙ y.left_is) in
-        let z = can under up (behind i q) (subst (StandsPrime primes) (sym (behind_nexts i q)) n) x k.0 (subst (λ m. m ≤ c.width) (plain_width i (expression_width names (behind i q) x) plain) (omega (arith, l))) y.right y.right_is in
+        let z = can under up (behind i q) (subst (IsAllowedPrime primes) (sym (behind_nexts i q)) n) x k.0 (subst (λ m. m ≤ c.width) (plain_width i (expression_width names (behind i q) x) plain) (omega (arith, l))) y.right y.right_is in
         let front_sort : sort_of c.width r.0 ≡ sort_of c.width ta = ap (sort_of c.width) (sym y.whole) ∙ joined_type c.width i y.left y.right x d' y.fits ∙ ap (sort_of c.width) (sym same) in
         let one_sort : sort_of c.width y.right ≡ sort_of c.width ta = joined_sort c.width i y.left y.right d' y.fits ∙ ap (sort_of c.width) (sym same) in
         let w = joined_can under up q n s p fr r.0 r.1 j d ls k.1 (omega (arith, l)) t h all'.1 in (
           w.0 ∙ front_sort,
           (λ bounds lets. (
-            subst (Stands (ctx enums vars primes) bounds ((translation c (flat_tree names leaf (behind i q) under x)).term (length bounds))) one_sort (z.value free bounds lets),
-            subst (λ v. StandEach (ctx enums vars primes) bounds (link_terms c (length bounds) (flat_links names leaf q under ls)) (copies v (link_terms c (length bounds) (flat_links names leaf q under ls)))) front_sort (w.1 bounds lets),
+            subst (IsWellScoped (ctx enums vars primes) bounds ((translation c (flat_tree names leaf (behind i q) under x)).term (length bounds))) one_sort (z.value free bounds lets),
+            subst (λ v. AreWellScoped (ctx enums vars primes) bounds (link_terms c (length bounds) (flat_links names leaf q under ls)) (copies v (link_terms c (length bounds) (flat_links names leaf q under ls)))) front_sort (w.1 bounds lets),
           )),
         )
 
-    unions_can : (under : Bool) → StandsPrime primes under → (q : Position) → StandsPrime primes q.nexts → (p : Place) (a : Typing) (ta : ExprType) → a.type ≡ Some ta → (ls : Links) → link_operators ls ≡ true → fronts_width names q p a ls ≤ c.width → are_unions ls ≡ true
+    unions_can : (under : Bool) → IsAllowedPrime primes under → (q : Position) → IsAllowedPrime primes q.nexts → (p : Place) (a : Typing) (ta : ExprType) → a.type ≡ Some ta → (ls : Links) → link_operators ls ≡ true → fronts_width names q p a ls ≤ c.width → are_unions ls ≡ true
         → (t : ExprType) → (linked names q p a ls).type ≡ Some t
         → (sort_of c.width t ≡ sort_of c.width ta) × ((bounds : List Local) → AreLetNames bounds → (y : Tree) → Has bounds y ta
-        → StandEach (ctx enums vars primes) bounds (link_members c (length bounds) y (flat_links names leaf q under ls)) (copies sort.Truth (link_members c (length bounds) y (flat_links names leaf q under ls))))
+        → AreWellScoped (ctx enums vars primes) bounds (link_members c (length bounds) y (flat_links names leaf q under ls)) (copies sort.Truth (link_members c (length bounds) y (flat_links names leaf q under ls))))
     unions_can under up q n p a ta e no_links o l d t h = (ap (sort_of c.width) (some_same t ta (sym h ∙ e)), (λ bounds lets y i. tt))
     unions_can under up q n p a ta e (link Union x ls) o l d t h =
         let b = both_true (has_operators x) (link_operators ls) o in
@@ -635,13 +635,13 @@ module _ (c : Coding) (enums : List Enumeration) (vars : List Local) (primes : P
         let w = unions_can under up q n p fr r.0 r.1 ls b.1 (omega (arith, l)) d t h in (
           w.0 ∙ front_sort,
           (λ bounds lets y i. (
-            (can under up q n x b.0 (omega (arith, l)) z.right z.right_is).member bounds lets y (subst (Stands (ctx enums vars primes) bounds y) (sym one_sort) i),
-            w.1 bounds lets y (subst (Stands (ctx enums vars primes) bounds y) (sym front_sort) i),
+            (can under up q n x b.0 (omega (arith, l)) z.right z.right_is).member bounds lets y (subst (IsWellScoped (ctx enums vars primes) bounds y) (sym one_sort) i),
+            w.1 bounds lets y (subst (IsWellScoped (ctx enums vars primes) bounds y) (sym front_sort) i),
           )),
         )
     unions_can under up q n p a ta e (link i x ls) o l d t h = absurd_bool d
 
-    implied_can : (under : Bool) → StandsPrime primes under → (at : Position) → StandsPrime primes at.nexts → (u : ExprType) (us : List ExprType) (ls : Links) → link_operators ls ≡ true → implied_width names (single at) ls ≤ c.width
+    implied_can : (under : Bool) → IsAllowedPrime primes under → (at : Position) → IsAllowedPrime primes at.nexts → (u : ExprType) (us : List ExprType) (ls : Links) → link_operators ls ≡ true → implied_width names (single at) ls ≤ c.width
         → all_types (link_types names (single at) ls) ≡ Some us → list_all (logical_fits u) us ≡ true → are_implies ls ≡ true → (bounds : List Local) → AreLetNames bounds → (a : Tree) → Has bounds a u
         → Has bounds (implied_term c (length bounds) a (flat_links names leaf (single at) under ls)) u
     implied_can under up at n u us no_links o l h k m bounds lets a i = i
@@ -657,6 +657,6 @@ module _ (c : Coding) (enums : List Enumeration) (vars : List Local) (primes : P
         (infix_stands c.width enums vars primes bounds Implies u r.0 x refl d.0 refl a tail i y)
     implied_can under up at n u us (link i x ls) o l h k m bounds lets a y = absurd_bool m
 
-    first_can : (under : Bool) → StandsPrime primes under → (es : Expressions) → part_operators es ≡ true → FirstCan under es
+    first_can : (under : Bool) → IsAllowedPrime primes under → (es : Expressions) → part_operators es ≡ true → FirstCan under es
     first_can under up no_expressions o = tt
     first_can under up (expression e es) o = λ q m w u k. can under up q m e (both_true (has_operators e) (part_operators es) o).0 w u k

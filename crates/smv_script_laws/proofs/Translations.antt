@@ -45,7 +45,7 @@ use Rattle.smv_script_laws.proofs.Rows.{same_codes, is_divided, IsNonzero, impli
 use Rattle.smv_script_laws.proofs.Functions.{at_front, AreOfKinds, AreCoded, select_row, bool_row, word1_row, toint_row, extend_one, resize_one, count_row, max_row, min_row, abs_row}
 use Rattle.smv_script_laws.proofs.Typings.{branches_typed, call_typed, front_no_union, front_typed, implies_flat, implies_typed, linked_typed, node_typed, or_first, prefix_typed, range_typed, right_no_union, select_typed, set_typed, some_same, type_kept, unions_flat}
 use Rattle.smv_script_laws.proofs.Known.{known_applied, known_value}
-use Rattle.smv_script_laws.proofs.Parts.{Front, IsAsWide, IsOfAll, LeafStands, SaysAll, amount_is, any_value, divisor_nonzero, extend_fits, extend_second, held_wider, hull_kind, hull_of_kind, implied_kind, joined_cons, joins_plain, joins_same, joined_end, joined_kept, joined_step, joined_word, known_kind, link_permits, logical_all, number_kept, number_value, permit_list, permits_any, pick_three, resize_fits, resize_second, toint_held, truth_code, unions_permit, wide_kept, wide_of, wide_word}
+use Rattle.smv_script_laws.proofs.Parts.{Front, IsAsWide, IsOfAll, LeafIsRepresented, SaysAll, amount_is, any_value, divisor_nonzero, extend_fits, extend_second, held_wider, hull_kind, hull_of_kind, implied_kind, joined_cons, joins_plain, joins_same, joined_end, joined_kept, joined_step, joined_word, known_kind, link_permits, logical_all, number_kept, number_value, permit_list, permits_any, pick_three, resize_fits, resize_second, toint_held, truth_code, unions_permit, wide_kept, wide_of, wide_word}
 use Rattle.smv_flat.proofs.FlatShapes.{or_false}
 use Rattle.smv_flat_laws.proofs.FlatTruths.{and_true, not_true}
 use Rattle.smv_script_laws.proofs.Functions.{pick_false}
@@ -83,7 +83,7 @@ linked_alone names q s p a f g d i x no_links t h =
 linked_alone names q s p a f g d i x (link j y ls) t h = linked_alone names q s p (front i q p a (typing names (behind i q) x) x) f g (joined i d (denote f g x)) j y ls t h
 
 module _ (c : Coding) (symbols : List (List ℕ)) (some : 1 ≤ c.width) (calls : Calls) (now later : Values) (names : Path → Named) (leaf : Path → Leaf) (g : Path → Value)
-    (hg : NamesLie names g) (kg : (x : Path) → LeafStands c.width symbols c.place later (leaf x) (g x)) where
+    (hg : NamesLie names g) (kg : (x : Path) → LeafIsRepresented c.width symbols c.place later (leaf x) (g x)) where
   value_says : (t : ExprType) (v : Value) (sets : Bool) (term : ℕ → Tree) → IsOfKind c.width symbols t v → ((vals : List Datum) → term_value calls now later vals (term (length vals)) ≡ datum_of c.width symbols v)
       → Says c.width symbols calls now later t (alone v) sets (value_translation term)
   value_says t v sets term k e = record {
@@ -109,11 +109,11 @@ module _ (c : Coding) (symbols : List (List ℕ)) (some : 1 ≤ c.width) (calls 
   lies_as : (f : Path → Value) → NamesLie names f → (at : Position) → at.sets ≡ false → (e : Expression) (t : ExprType) → (typing names at e).type ≡ Some t → LiesIn t (denote f g e).value
   lies_as f hf at s e t h = subst (λ o. Lies o (denote f g e).value) h ((fine names f g hf hg at e).valued s)
 
-  kinded : (under : Bool) (f : Path → Value) → NamesLie names f → ((x : Path) → LeafStands c.width symbols c.place (if under then later else now) (leaf x) (f x)) → (at : Position) → at.sets ≡ false → (e : Expression) → expression_width names at e ≤ c.width → (t : ExprType) → (typing names at e).type ≡ Some t → IsOfKind c.width symbols t (denote f g e).value
+  kinded : (under : Bool) (f : Path → Value) → NamesLie names f → ((x : Path) → LeafIsRepresented c.width symbols c.place (if under then later else now) (leaf x) (f x)) → (at : Position) → at.sets ≡ false → (e : Expression) → expression_width names at e ≤ c.width → (t : ExprType) → (typing names at e).type ≡ Some t → IsOfKind c.width symbols t (denote f g e).value
   kinded under f hf kf at s e l t h =
       known_kind c.width symbols t (denote f g e).value (type_fits at e l t h) (lies_as f hf at s e t h) (known_value symbols f g (λ x. (kf x).1) (λ x. (kg x).1) e)
 
-  leaf_says : (under : Bool) (l : Leaf) (o : Option ExprType) (t : ExprType) (v : Value) (sets : Bool) → LeafStands c.width symbols c.place (if under then later else now) l v → IsOfKind c.width symbols t v
+  leaf_says : (under : Bool) (l : Leaf) (o : Option ExprType) (t : ExprType) (v : Value) (sets : Bool) → LeafIsRepresented c.width symbols c.place (if under then later else now) l v → IsOfKind c.width symbols t v
       → Says c.width symbols calls now later t (alone v) sets (translation c (leaf_tree o under l))
   leaf_says true (of_item i) o t v sets e k = value_says t v sets (λ n. variable (c.place i) true) k (λ vals. e.0)
   leaf_says false (of_item i) o t v sets e k = value_says t v sets (λ n. variable (c.place i) false) k (λ vals. e.0)
@@ -179,7 +179,7 @@ module _ (c : Coding) (symbols : List (List ℕ)) (some : 1 ≤ c.width) (calls 
   nonzero_if o f h e d b = absurd_bool b
 
   -- the value of a chain that is no set and isn't read from the right
-  chain_kind : (under : Bool) (f : Path → Value) → NamesLie names f → ((x : Path) → LeafStands c.width symbols c.place (if under then later else now) (leaf x) (f x)) → (at : Position) (p : Place) (e : Expression) (ls : Links) → expression_width names at (chain p e ls) ≤ c.width → (t : ExprType) → (typing names at (chain p e ls)).type ≡ Some t
+  chain_kind : (under : Bool) (f : Path → Value) → NamesLie names f → ((x : Path) → LeafIsRepresented c.width symbols c.place (if under then later else now) (leaf x) (f x)) → (at : Position) (p : Place) (e : Expression) (ls : Links) → expression_width names at (chain p e ls) ≤ c.width → (t : ExprType) → (typing names at (chain p e ls)).type ≡ Some t
       → is_from_right ls ≡ false → are_unions ls ≡ false → IsOfKind c.width symbols t (linked_values f g (denote f g e) ls).value
   chain_kind under f hf kf at p e ls l t h r n =
       let q : Position → Bool → Position = λ z u. if u then z else single at in
@@ -197,7 +197,7 @@ module _ (c : Coding) (symbols : List (List ℕ)) (some : 1 ≤ c.width) (calls 
   FirstSays under f no_expressions = Unit {0}
   FirstSays under f (expression e es) = ((q : Position) → expression_width names q e ≤ c.width → (t : ExprType) → (typing names q e).type ≡ Some t → Says c.width symbols calls now later t (denote f g e) q.sets (translation c (flat_tree names leaf q under e)))
 
-  first_is : (under : Bool) (f : Path → Value) → NamesLie names f → ((x : Path) → LeafStands c.width symbols c.place (if under then later else now) (leaf x) (f x)) → (at : Position) (es : Expressions) → part_operators es ≡ true → (us : List ExprType) → all_types (tree_types names (single at) es) ≡ Some us → function_fits OfFunction.Toint us ≡ true
+  first_is : (under : Bool) (f : Path → Value) → NamesLie names f → ((x : Path) → LeafIsRepresented c.width symbols c.place (if under then later else now) (leaf x) (f x)) → (at : Position) (es : Expressions) → part_operators es ≡ true → (us : List ExprType) → all_types (tree_types names (single at) es) ≡ Some us → function_fits OfFunction.Toint us ≡ true
       → (arguments_of (flat_trees names leaf (single at) under es)).width ≡ type_width (first_type us)
   first_is under f hf kf at no_expressions o [] h fits = cc
   first_is under f hf kf at no_expressions o (u ∷ us) h fits = cc
@@ -207,7 +207,7 @@ module _ (c : Coding) (symbols : List (List ℕ)) (some : 1 ≤ c.width) (calls 
 
   -- ---- chains
 
-  plain_says : (under : Bool) (f : Path → Value) → NamesLie names f → ((x : Path) → LeafStands c.width symbols c.place (if under then later else now) (leaf x) (f x)) → (q : Position) → q.sets ≡ false → (p : Place) (a : Typing) (ta : ExprType) → a.type ≡ Some ta → (d : Denotation) (i : Infix) → is_plain i ≡ true → (x : Expression) → has_operators x ≡ true → ((q : Position) → expression_width names q x ≤ c.width → (t : ExprType) → (typing names q x).type ≡ Some t → Says c.width symbols calls now later t (denote f g x) q.sets (translation c (flat_tree names leaf q under x)))
+  plain_says : (under : Bool) (f : Path → Value) → NamesLie names f → ((x : Path) → LeafIsRepresented c.width symbols c.place (if under then later else now) (leaf x) (f x)) → (q : Position) → q.sets ≡ false → (p : Place) (a : Typing) (ta : ExprType) → a.type ≡ Some ta → (d : Denotation) (i : Infix) → is_plain i ≡ true → (x : Expression) → has_operators x ≡ true → ((q : Position) → expression_width names q x ≤ c.width → (t : ExprType) → (typing names q x).type ≡ Some t → Says c.width symbols calls now later t (denote f g x) q.sets (translation c (flat_tree names leaf q under x)))
       → operand_width i (expression_width names (behind i q) x) ≤ c.width → (tf : ExprType) → (front i q p a (typing names (behind i q) x) x).type ≡ Some tf → integers_width tf ≤ c.width
       → (vals : List Datum) (named : Bool) (m : ℕ) (acc : Tree) → Front c.width symbols calls now later vals ta d.value m acc
       → Front c.width symbols calls now later vals tf (joined i d (denote f g x)).value (front_width i m (word_width (flat_tree names leaf (behind i q) under x)))
@@ -239,7 +239,7 @@ module _ (c : Coding) (symbols : List (List ℕ)) (some : 1 ≤ c.width) (calls 
             (subst (λ z. IsAsWide (infix_type i r.left r.right x) (front_width i m z)) (sym (ap width_in kept)) (wide_kept i r.left r.right x m r.fits (subst (λ z. IsAsWide z m) same b.wide)));
       }
 
-  front_says : (under : Bool) (f : Path → Value) → NamesLie names f → ((x : Path) → LeafStands c.width symbols c.place (if under then later else now) (leaf x) (f x)) → (q : Position) → q.sets ≡ false → (p : Place) (a : Typing) (ta : ExprType) → a.type ≡ Some ta → (d : Denotation) (i : Infix) (x : Expression) → has_operators x ≡ true → ((q : Position) → expression_width names q x ≤ c.width → (t : ExprType) → (typing names q x).type ≡ Some t → Says c.width symbols calls now later t (denote f g x) q.sets (translation c (flat_tree names leaf q under x)))
+  front_says : (under : Bool) (f : Path → Value) → NamesLie names f → ((x : Path) → LeafIsRepresented c.width symbols c.place (if under then later else now) (leaf x) (f x)) → (q : Position) → q.sets ≡ false → (p : Place) (a : Typing) (ta : ExprType) → a.type ≡ Some ta → (d : Denotation) (i : Infix) (x : Expression) → has_operators x ≡ true → ((q : Position) → expression_width names q x ≤ c.width → (t : ExprType) → (typing names q x).type ≡ Some t → Says c.width symbols calls now later t (denote f g x) q.sets (translation c (flat_tree names leaf q under x)))
       → operand_width i (expression_width names (behind i q) x) ≤ c.width → (tf : ExprType) → (front i q p a (typing names (behind i q) x) x).type ≡ Some tf → integers_width tf ≤ c.width
       → (vals : List Datum) (named : Bool) (m : ℕ) (acc : Tree) → Front c.width symbols calls now later vals ta d.value m acc
       → Front c.width symbols calls now later vals tf (joined i d (denote f g x)).value (front_width i m (word_width (flat_tree names leaf (behind i q) under x)))
@@ -291,7 +291,7 @@ module _ (c : Coding) (symbols : List (List ℕ)) (some : 1 ≤ c.width) (calls 
       }
   front_says under f hf kf q s p a ta e d i x o hx l tf h k vals named m acc b = plain_says under f hf kf q s p a ta e d i refl x o hx l tf h k vals named m acc b
 
-  left_says : (under : Bool) (f : Path → Value) → NamesLie names f → ((x : Path) → LeafStands c.width symbols c.place (if under then later else now) (leaf x) (f x)) → (at q : Position) → q.sets ≡ false → (p : Place) (e : Expression) (i : Infix) (x : Expression) (ls : Links) → has_operators e ≡ true → has_operators x ≡ true → ((q : Position) → expression_width names q e ≤ c.width → (t : ExprType) → (typing names q e).type ≡ Some t → Says c.width symbols calls now later t (denote f g e) q.sets (translation c (flat_tree names leaf q under e))) → ((q : Position) → expression_width names q x ≤ c.width → (t : ExprType) → (typing names q x).type ≡ Some t → Says c.width symbols calls now later t (denote f g x) q.sets (translation c (flat_tree names leaf q under x))) → ((q : Position) → q.sets ≡ false → (p : Place) (a : Typing) (ta : ExprType) → a.type ≡ Some ta → (d : Denotation) → fronts_width names q p a ls ≤ c.width → (t : ExprType) → (linked names q p a ls).type ≡ Some t → (vals : List Datum) (m : ℕ) (acc : Tree) → Front c.width symbols calls now later vals ta d.value m acc → term_value calls now later vals (folded_term c (length vals) m acc (flat_links names leaf q under ls)) ≡ datum_of c.width symbols (linked_values f g d ls).value)
+  left_says : (under : Bool) (f : Path → Value) → NamesLie names f → ((x : Path) → LeafIsRepresented c.width symbols c.place (if under then later else now) (leaf x) (f x)) → (at q : Position) → q.sets ≡ false → (p : Place) (e : Expression) (i : Infix) (x : Expression) (ls : Links) → has_operators e ≡ true → has_operators x ≡ true → ((q : Position) → expression_width names q e ≤ c.width → (t : ExprType) → (typing names q e).type ≡ Some t → Says c.width symbols calls now later t (denote f g e) q.sets (translation c (flat_tree names leaf q under e))) → ((q : Position) → expression_width names q x ≤ c.width → (t : ExprType) → (typing names q x).type ≡ Some t → Says c.width symbols calls now later t (denote f g x) q.sets (translation c (flat_tree names leaf q under x))) → ((q : Position) → q.sets ≡ false → (p : Place) (a : Typing) (ta : ExprType) → a.type ≡ Some ta → (d : Denotation) → fronts_width names q p a ls ≤ c.width → (t : ExprType) → (linked names q p a ls).type ≡ Some t → (vals : List Datum) (m : ℕ) (acc : Tree) → Front c.width symbols calls now later vals ta d.value m acc → term_value calls now later vals (folded_term c (length vals) m acc (flat_links names leaf q under ls)) ≡ datum_of c.width symbols (linked_values f g d ls).value)
       → expression_width names q e ≤ c.width → fronts_width names q p (typing names q e) (link i x ls) ≤ c.width → (t : ExprType) → (linked names q p (typing names q e) (link i x ls)).type ≡ Some t
       → (vals : List Datum)
       → term_value calls now later vals (folded_term c (length vals) (front_width i (word_width (flat_tree names leaf q under e)) (word_width (flat_tree names leaf (behind i q) under x)))
@@ -313,7 +313,7 @@ module _ (c : Coding) (symbols : List (List ℕ)) (some : 1 ≤ c.width) (calls 
       fold q s p fr r.0 r.1 (joined i (denote f g e) (denote f g x)) (omega (arith, wl)) t h vals (front_width i (word_width (flat_tree names leaf q under e)) (word_width (flat_tree names leaf (behind i q) under x))) _
       (front_says under f hf kf q s p a y.left y.left_is (denote f g e) i x ox hx (omega (arith, wl)) r.0 r.1 fits vals (is_name (flat_tree names leaf q under e)) (word_width (flat_tree names leaf q under e)) ((translation c (flat_tree names leaf q under e)).term (length vals)) b)
 
-  one_sign_says : (under : Bool) (f : Path → Value) → NamesLie names f → ((x : Path) → LeafStands c.width symbols c.place (if under then later else now) (leaf x) (f x)) → (at q : Position) → q.sets ≡ false → (p : Place) (e : Expression) (i : Infix) (x : Expression) (ls : Links) → has_operators e ≡ true → has_operators x ≡ true → ((q : Position) → expression_width names q e ≤ c.width → (t : ExprType) → (typing names q e).type ≡ Some t → Says c.width symbols calls now later t (denote f g e) q.sets (translation c (flat_tree names leaf q under e))) → ((q : Position) → q.sets ≡ false → (p : Place) (a : Typing) (ta : ExprType) → a.type ≡ Some ta → (d : Denotation) (j : Infix) → joins_with j j ≡ true → fronts_width names q p a (link i x ls) ≤ c.width → (t : ExprType) → (linked names q p a (link i x ls)).type ≡ Some t → all_join_with j (flat_links names leaf q under (link i x ls)) ≡ true → (us : ExprType) → infix_fits j ta us ≡ true → LiesIn ta d.value → IsOfKind c.width symbols ta d.value → (vals : List Datum) → op_value (infix_op j (is_word_type ta)) (datum_of c.width symbols d.value ∷ term_values calls now later vals (link_terms c (length vals) (flat_links names leaf q under (link i x ls)))) ≡ datum_of c.width symbols (linked_values f g d (link i x ls)).value)
+  one_sign_says : (under : Bool) (f : Path → Value) → NamesLie names f → ((x : Path) → LeafIsRepresented c.width symbols c.place (if under then later else now) (leaf x) (f x)) → (at q : Position) → q.sets ≡ false → (p : Place) (e : Expression) (i : Infix) (x : Expression) (ls : Links) → has_operators e ≡ true → has_operators x ≡ true → ((q : Position) → expression_width names q e ≤ c.width → (t : ExprType) → (typing names q e).type ≡ Some t → Says c.width symbols calls now later t (denote f g e) q.sets (translation c (flat_tree names leaf q under e))) → ((q : Position) → q.sets ≡ false → (p : Place) (a : Typing) (ta : ExprType) → a.type ≡ Some ta → (d : Denotation) (j : Infix) → joins_with j j ≡ true → fronts_width names q p a (link i x ls) ≤ c.width → (t : ExprType) → (linked names q p a (link i x ls)).type ≡ Some t → all_join_with j (flat_links names leaf q under (link i x ls)) ≡ true → (us : ExprType) → infix_fits j ta us ≡ true → LiesIn ta d.value → IsOfKind c.width symbols ta d.value → (vals : List Datum) → op_value (infix_op j (is_word_type ta)) (datum_of c.width symbols d.value ∷ term_values calls now later vals (link_terms c (length vals) (flat_links names leaf q under (link i x ls)))) ≡ datum_of c.width symbols (linked_values f g d (link i x ls)).value)
       → expression_width names q e ≤ c.width → fronts_width names q p (typing names q e) (link i x ls) ≤ c.width → (t : ExprType) → (linked names q p (typing names q e) (link i x ls)).type ≡ Some t
       → joins_with i i ≡ true → all_join_with i (flat_links names leaf q under ls) ≡ true → (vals : List Datum)
       → term_value calls now later vals (apply (infix_op i (is_word (flat_tree names leaf (behind i q) under x))) (tree ((translation c (flat_tree names leaf q under e)).term (length vals)) (tree ((translation c (flat_tree names leaf (behind i q) under x)).term (length vals)) (link_terms c (length vals) (flat_links names leaf q under ls)))))
@@ -332,7 +332,7 @@ module _ (c : Coding) (symbols : List (List ℕ)) (some : 1 ≤ c.width) (calls 
       y.right y.fits (lies_as f hf q s e y.left y.left_is) (z.kind s) vals
 
   -- a set of operands
-  union_says : (under : Bool) (f : Path → Value) → NamesLie names f → ((x : Path) → LeafStands c.width symbols c.place (if under then later else now) (leaf x) (f x)) → (at : Position) (p : Place) (e : Expression) (i : Infix) (x : Expression) (ls : Links) → ((q : Position) → expression_width names q e ≤ c.width → (t : ExprType) → (typing names q e).type ≡ Some t → Says c.width symbols calls now later t (denote f g e) q.sets (translation c (flat_tree names leaf q under e))) → ((q : Position) (p : Place) (a : Typing) (ta : ExprType) → a.type ≡ Some ta → fronts_width names q p a (link i x ls) ≤ c.width → are_unions (link i x ls) ≡ true → (t : ExprType) → (linked names q p a (link i x ls)).type ≡ Some t → (vals : List Datum) (y : Tree) (v : Value) → IsOfKind c.width symbols t v → term_value calls now later vals y ≡ datum_of c.width symbols v → IsOfKind c.width symbols ta v × (term_values calls now later vals (link_members c (length vals) y (flat_links names leaf q under (link i x ls))) ≡ map (λ b. datum.Truth b) (link_permits f g (link i x ls) v)))
+  union_says : (under : Bool) (f : Path → Value) → NamesLie names f → ((x : Path) → LeafIsRepresented c.width symbols c.place (if under then later else now) (leaf x) (f x)) → (at : Position) (p : Place) (e : Expression) (i : Infix) (x : Expression) (ls : Links) → ((q : Position) → expression_width names q e ≤ c.width → (t : ExprType) → (typing names q e).type ≡ Some t → Says c.width symbols calls now later t (denote f g e) q.sets (translation c (flat_tree names leaf q under e))) → ((q : Position) (p : Place) (a : Typing) (ta : ExprType) → a.type ≡ Some ta → fronts_width names q p a (link i x ls) ≤ c.width → are_unions (link i x ls) ≡ true → (t : ExprType) → (linked names q p a (link i x ls)).type ≡ Some t → (vals : List Datum) (y : Tree) (v : Value) → IsOfKind c.width symbols t v → term_value calls now later vals y ≡ datum_of c.width symbols v → IsOfKind c.width symbols ta v × (term_values calls now later vals (link_members c (length vals) y (flat_links names leaf q under (link i x ls))) ≡ map (λ b. datum.Truth b) (link_permits f g (link i x ls) v)))
       → expression_width names at e ≤ c.width → fronts_width names at p (typing names at e) (link i x ls) ≤ c.width → (t : ExprType) → (linked names at p (typing names at e) (link i x ls)).type ≡ Some t
       → are_unions (link i x ls) ≡ true
       → Says c.width symbols calls now later t (linked_values f g (denote f g e) (link i x ls)) at.sets (set_translation (λ k y. any_term (tree ((translation c (flat_tree names leaf at under e)).member k y) (tree ((translation c (flat_tree names leaf (behind i at) under x)).member k y) (link_members c k y (flat_links names leaf at under ls))))))
@@ -350,7 +350,7 @@ module _ (c : Coding) (symbols : List (List ℕ)) (some : 1 ≤ c.width) (calls 
       }
 
   -- a chain of `->`
-  right_says : (under : Bool) (f : Path → Value) → NamesLie names f → ((x : Path) → LeafStands c.width symbols c.place (if under then later else now) (leaf x) (f x)) → (at : Position) (p : Place) (e : Expression) (i : Infix) (x : Expression) (ls : Links) → ((q : Position) → expression_width names q e ≤ c.width → (t : ExprType) → (typing names q e).type ≡ Some t → Says c.width symbols calls now later t (denote f g e) q.sets (translation c (flat_tree names leaf q under e))) → ((at : Position) (u : ExprType) (us : List ExprType) (v : Value) → implied_width names (single at) (link i x ls) ≤ c.width → all_types (link_types names (single at) (link i x ls)) ≡ Some us → list_all (logical_fits u) us ≡ true → are_implies (link i x ls) ≡ true → IsOfKind c.width symbols u v → (vals : List Datum) (a : Tree) → term_value calls now later vals a ≡ datum_of c.width symbols v → (term_value calls now later vals (implied_term c (length vals) a (flat_links names leaf (single at) under (link i x ls))) ≡ datum_of c.width symbols (implications f g v (link i x ls))) × IsOfKind c.width symbols u (implications f g v (link i x ls)))
+  right_says : (under : Bool) (f : Path → Value) → NamesLie names f → ((x : Path) → LeafIsRepresented c.width symbols c.place (if under then later else now) (leaf x) (f x)) → (at : Position) (p : Place) (e : Expression) (i : Infix) (x : Expression) (ls : Links) → ((q : Position) → expression_width names q e ≤ c.width → (t : ExprType) → (typing names q e).type ≡ Some t → Says c.width symbols calls now later t (denote f g e) q.sets (translation c (flat_tree names leaf q under e))) → ((at : Position) (u : ExprType) (us : List ExprType) (v : Value) → implied_width names (single at) (link i x ls) ≤ c.width → all_types (link_types names (single at) (link i x ls)) ≡ Some us → list_all (logical_fits u) us ≡ true → are_implies (link i x ls) ≡ true → IsOfKind c.width symbols u v → (vals : List Datum) (a : Tree) → term_value calls now later vals a ≡ datum_of c.width symbols v → (term_value calls now later vals (implied_term c (length vals) a (flat_links names leaf (single at) under (link i x ls))) ≡ datum_of c.width symbols (implications f g v (link i x ls))) × IsOfKind c.width symbols u (implications f g v (link i x ls)))
       → max (expression_width names (single at) e) (implied_width names (single at) (link i x ls)) ≤ c.width → (t : ExprType)
       → (if passes (check 16 p (on_all (all_types ((typing names (single at) e).type ∷ link_types names (single at) (link i x ls))) implies_fits) ∷ []) then option_map first_type (all_types ((typing names (single at) e).type ∷ link_types names (single at) (link i x ls))) else None) ≡ Some t
       → is_from_right (link i x ls) ≡ true
@@ -368,7 +368,7 @@ module _ (c : Coding) (symbols : List (List ℕ)) (some : 1 ≤ c.width) (calls 
             (implied at k.0 k.1 v (omega (arith, w)) k.3 fits r (z.kind refl) [] ((translation c (flat_tree names leaf (single at) under e)).term 0) (z.value refl [])).1,
       )
 
-  chain_says : (under : Bool) (f : Path → Value) → NamesLie names f → ((x : Path) → LeafStands c.width symbols c.place (if under then later else now) (leaf x) (f x)) → (at : Position) (p : Place) (e : Expression) (i : Infix) (x : Expression) (ls : Links) → has_operators (chain p e (link i x ls)) ≡ true → ((q : Position) → expression_width names q e ≤ c.width → (t : ExprType) → (typing names q e).type ≡ Some t → Says c.width symbols calls now later t (denote f g e) q.sets (translation c (flat_tree names leaf q under e))) → ((q : Position) → expression_width names q x ≤ c.width → (t : ExprType) → (typing names q x).type ≡ Some t → Says c.width symbols calls now later t (denote f g x) q.sets (translation c (flat_tree names leaf q under x))) → ((q : Position) → q.sets ≡ false → (p : Place) (a : Typing) (ta : ExprType) → a.type ≡ Some ta → (d : Denotation) → fronts_width names q p a ls ≤ c.width → (t : ExprType) → (linked names q p a ls).type ≡ Some t → (vals : List Datum) (m : ℕ) (acc : Tree) → Front c.width symbols calls now later vals ta d.value m acc → term_value calls now later vals (folded_term c (length vals) m acc (flat_links names leaf q under ls)) ≡ datum_of c.width symbols (linked_values f g d ls).value) → ((q : Position) → q.sets ≡ false → (p : Place) (a : Typing) (ta : ExprType) → a.type ≡ Some ta → (d : Denotation) (j : Infix) → joins_with j j ≡ true → fronts_width names q p a (link i x ls) ≤ c.width → (t : ExprType) → (linked names q p a (link i x ls)).type ≡ Some t → all_join_with j (flat_links names leaf q under (link i x ls)) ≡ true → (us : ExprType) → infix_fits j ta us ≡ true → LiesIn ta d.value → IsOfKind c.width symbols ta d.value → (vals : List Datum) → op_value (infix_op j (is_word_type ta)) (datum_of c.width symbols d.value ∷ term_values calls now later vals (link_terms c (length vals) (flat_links names leaf q under (link i x ls)))) ≡ datum_of c.width symbols (linked_values f g d (link i x ls)).value) → ((q : Position) (p : Place) (a : Typing) (ta : ExprType) → a.type ≡ Some ta → fronts_width names q p a (link i x ls) ≤ c.width → are_unions (link i x ls) ≡ true → (t : ExprType) → (linked names q p a (link i x ls)).type ≡ Some t → (vals : List Datum) (y : Tree) (v : Value) → IsOfKind c.width symbols t v → term_value calls now later vals y ≡ datum_of c.width symbols v → IsOfKind c.width symbols ta v × (term_values calls now later vals (link_members c (length vals) y (flat_links names leaf q under (link i x ls))) ≡ map (λ b. datum.Truth b) (link_permits f g (link i x ls) v))) → ((at : Position) (u : ExprType) (us : List ExprType) (v : Value) → implied_width names (single at) (link i x ls) ≤ c.width → all_types (link_types names (single at) (link i x ls)) ≡ Some us → list_all (logical_fits u) us ≡ true → are_implies (link i x ls) ≡ true → IsOfKind c.width symbols u v → (vals : List Datum) (a : Tree) → term_value calls now later vals a ≡ datum_of c.width symbols v → (term_value calls now later vals (implied_term c (length vals) a (flat_links names leaf (single at) under (link i x ls))) ≡ datum_of c.width symbols (implications f g v (link i x ls))) × IsOfKind c.width symbols u (implications f g v (link i x ls))) → expression_width names at (chain p e (link i x ls)) ≤ c.width
+  chain_says : (under : Bool) (f : Path → Value) → NamesLie names f → ((x : Path) → LeafIsRepresented c.width symbols c.place (if under then later else now) (leaf x) (f x)) → (at : Position) (p : Place) (e : Expression) (i : Infix) (x : Expression) (ls : Links) → has_operators (chain p e (link i x ls)) ≡ true → ((q : Position) → expression_width names q e ≤ c.width → (t : ExprType) → (typing names q e).type ≡ Some t → Says c.width symbols calls now later t (denote f g e) q.sets (translation c (flat_tree names leaf q under e))) → ((q : Position) → expression_width names q x ≤ c.width → (t : ExprType) → (typing names q x).type ≡ Some t → Says c.width symbols calls now later t (denote f g x) q.sets (translation c (flat_tree names leaf q under x))) → ((q : Position) → q.sets ≡ false → (p : Place) (a : Typing) (ta : ExprType) → a.type ≡ Some ta → (d : Denotation) → fronts_width names q p a ls ≤ c.width → (t : ExprType) → (linked names q p a ls).type ≡ Some t → (vals : List Datum) (m : ℕ) (acc : Tree) → Front c.width symbols calls now later vals ta d.value m acc → term_value calls now later vals (folded_term c (length vals) m acc (flat_links names leaf q under ls)) ≡ datum_of c.width symbols (linked_values f g d ls).value) → ((q : Position) → q.sets ≡ false → (p : Place) (a : Typing) (ta : ExprType) → a.type ≡ Some ta → (d : Denotation) (j : Infix) → joins_with j j ≡ true → fronts_width names q p a (link i x ls) ≤ c.width → (t : ExprType) → (linked names q p a (link i x ls)).type ≡ Some t → all_join_with j (flat_links names leaf q under (link i x ls)) ≡ true → (us : ExprType) → infix_fits j ta us ≡ true → LiesIn ta d.value → IsOfKind c.width symbols ta d.value → (vals : List Datum) → op_value (infix_op j (is_word_type ta)) (datum_of c.width symbols d.value ∷ term_values calls now later vals (link_terms c (length vals) (flat_links names leaf q under (link i x ls)))) ≡ datum_of c.width symbols (linked_values f g d (link i x ls)).value) → ((q : Position) (p : Place) (a : Typing) (ta : ExprType) → a.type ≡ Some ta → fronts_width names q p a (link i x ls) ≤ c.width → are_unions (link i x ls) ≡ true → (t : ExprType) → (linked names q p a (link i x ls)).type ≡ Some t → (vals : List Datum) (y : Tree) (v : Value) → IsOfKind c.width symbols t v → term_value calls now later vals y ≡ datum_of c.width symbols v → IsOfKind c.width symbols ta v × (term_values calls now later vals (link_members c (length vals) y (flat_links names leaf q under (link i x ls))) ≡ map (λ b. datum.Truth b) (link_permits f g (link i x ls) v))) → ((at : Position) (u : ExprType) (us : List ExprType) (v : Value) → implied_width names (single at) (link i x ls) ≤ c.width → all_types (link_types names (single at) (link i x ls)) ≡ Some us → list_all (logical_fits u) us ≡ true → are_implies (link i x ls) ≡ true → IsOfKind c.width symbols u v → (vals : List Datum) (a : Tree) → term_value calls now later vals a ≡ datum_of c.width symbols v → (term_value calls now later vals (implied_term c (length vals) a (flat_links names leaf (single at) under (link i x ls))) ≡ datum_of c.width symbols (implications f g v (link i x ls))) × IsOfKind c.width symbols u (implications f g v (link i x ls))) → expression_width names at (chain p e (link i x ls)) ≤ c.width
       → (t : ExprType) → (typing names at (chain p e (link i x ls))).type ≡ Some t → Says c.width symbols calls now later t (denote f g (chain p e (link i x ls))) at.sets (translation c (flat_tree names leaf at under (chain p e (link i x ls))))
   chain_says under f hf kf at p e i x ls o he hx fold one_sign unions implied l t h = by_cases (is_from_right (link i x ls))
       (λ r.
@@ -416,7 +416,7 @@ module _ (c : Coding) (symbols : List (List ℕ)) (some : 1 ≤ c.width) (calls 
       (among_term (is_name (flat_tree names leaf (across (link i x ls) at) under e)) n ((translation c (flat_tree names leaf (across (link i x ls) at) under e)).term n) (translation c (flat_tree names leaf (behind i (across (link i x ls) at)) under x)).member)) (flat_links names leaf (across (link i x ls) at) under ls)) (chain_kind under f hf kf at p e (link i x ls) l t h r nu)
       (λ vals. left_says under f hf kf at (across (link i x ls) at) s p e i x ls b.0 b'.0 he hx fold we wl t ht vals)))))
 
-  call_says : (under : Bool) (f : Path → Value) → NamesLie names f → ((x : Path) → LeafStands c.width symbols c.place (if under then later else now) (leaf x) (f x)) → (at : Position) (fn : Function) (es : Expressions) → part_operators es ≡ true → FirstSays under f es
+  call_says : (under : Bool) (f : Path → Value) → NamesLie names f → ((x : Path) → LeafIsRepresented c.width symbols c.place (if under then later else now) (leaf x) (f x)) → (at : Position) (fn : Function) (es : Expressions) → part_operators es ≡ true → FirstSays under f es
       → arguments_width fn (first_part_width names (single at) es) (part_width names (single at) es) ≤ c.width → (us : List ExprType) → all_types (tree_types names (single at) es) ≡ Some us → ((vals : List Datum) → part_width names (single at) es ≤ c.width → AreOfKinds c.width symbols us (values_of f g es) × AreCoded (term_value calls now later vals) (datum_of c.width symbols) (terms c (length vals) (flat_trees names leaf (single at) under es)) (values_of f g es))
       → function_fits fn us ≡ true → arguments_fit fn us (numbers_of es) ≡ true → integers_width (function_type fn us (numbers_of es)) ≤ c.width → (vals : List Datum)
       → term_value calls now later vals (function_term c.width (length vals) fn (arguments_of (flat_trees names leaf (single at) under es)) (terms c (length vals) (flat_trees names leaf (single at) under es))) ≡ datum_of c.width symbols (called fn (values_of f g es))
@@ -459,7 +459,7 @@ module _ (c : Coding) (symbols : List (List ℕ)) (some : 1 ≤ c.width) (calls 
   call_says under f hf kf at OfFunction.Resize es o hfirst l us h args fits numbers kept vals = absurd (resize_second us (numbers_of es) numbers)
 
   mutual
-    pub says : (under : Bool) (f : Path → Value) → NamesLie names f → ((x : Path) → LeafStands c.width symbols c.place (if under then later else now) (leaf x) (f x)) → (at : Position) (e : Expression) → has_operators e ≡ true → expression_width names at e ≤ c.width → (t : ExprType) → (typing names at e).type ≡ Some t
+    pub says : (under : Bool) (f : Path → Value) → NamesLie names f → ((x : Path) → LeafIsRepresented c.width symbols c.place (if under then later else now) (leaf x) (f x)) → (at : Position) (e : Expression) → has_operators e ≡ true → expression_width names at e ≤ c.width → (t : ExprType) → (typing names at e).type ≡ Some t
         → Says c.width symbols calls now later t (denote f g e) at.sets (translation c (flat_tree names leaf at under e))
     says under f hf kf at (truth p b) o l t h = as_type truth_type t (alone (Truth b)) at.sets (value_translation (λ k. constant (datum.Truth b))) (some_same truth_type t h) (value_says truth_type (Truth b) at.sets (λ k. constant (datum.Truth b)) tt (λ vals. refl))
     says under f hf kf at (number p n) o l t h = value_says t (Integer (pos n)) at.sets (λ k. integer_term c.width (pos n)) (kinded under f hf kf (single at) refl (number p n) l t h) (λ vals. refl)
@@ -538,7 +538,7 @@ module _ (c : Coding) (symbols : List (List ℕ)) (some : 1 ≤ c.width) (calls 
           member = λ vals y v k i. between_says vals low high y v first last (subst (λ z. IsOfKind c.width symbols z v) (sym r.2) k) i;
         }
 
-    chosen_says : (under : Bool) (f : Path → Value) → NamesLie names f → ((x : Path) → LeafStands c.width symbols c.place (if under then later else now) (leaf x) (f x)) → (at : Position) (bs : Branches) (z : Option ExprType) (d : Denotation) (x : Translation) → ((u : ExprType) → z ≡ Some u → Says c.width symbols calls now later u d at.sets x)
+    chosen_says : (under : Bool) (f : Path → Value) → NamesLie names f → ((x : Path) → LeafIsRepresented c.width symbols c.place (if under then later else now) (leaf x) (f x)) → (at : Position) (bs : Branches) (z : Option ExprType) (d : Denotation) (x : Translation) → ((u : ExprType) → z ≡ Some u → Says c.width symbols calls now later u d at.sets x)
         → branch_operators bs ≡ true → branch_width names at bs ≤ c.width → (qs : List ExprType) → all_types (condition_types names (single at) bs) ≡ Some qs
         → (us : List ExprType) → all_types (value_types names at bs (z ∷ [])) ≡ Some us → SaysAll c.width symbols calls now later us (chosen f g bs d) at.sets (chosen_translation c (flat_branches names leaf at under bs) x)
     chosen_says under f hf kf at no_branches z d x i o l qs a us h =
@@ -552,7 +552,7 @@ module _ (c : Coding) (symbols : List (List ℕ)) (some : 1 ≤ c.width) (calls 
         (choice_says k.1 k.0 at.sets (denote f g q).value (translation c (flat_tree names leaf (single at) under q)) (translation c (flat_tree names leaf at under v)) (chosen_translation c (flat_branches names leaf at under rest) x) (denote f g v) (chosen f g rest d)
         ((says under f hf kf (single at) q b.0 (omega (arith, l)) m.0 m.2).value refl) (says under f hf kf at v b'.0 (omega (arith, l)) k.0 k.2) (chosen_says under f hf kf at rest z d x i b'.1 (omega (arith, l)) m.1 m.3 k.1 k.3))
 
-    taken_says : (under : Bool) (f : Path → Value) → NamesLie names f → ((x : Path) → LeafStands c.width symbols c.place (if under then later else now) (leaf x) (f x)) → (at : Position) (bs : Branches) → is_last bs ≡ false → branch_operators bs ≡ true → branch_width names at bs ≤ c.width
+    taken_says : (under : Bool) (f : Path → Value) → NamesLie names f → ((x : Path) → LeafIsRepresented c.width symbols c.place (if under then later else now) (leaf x) (f x)) → (at : Position) (bs : Branches) → is_last bs ≡ false → branch_operators bs ≡ true → branch_width names at bs ≤ c.width
         → (qs : List ExprType) → all_types (condition_types names (single at) bs) ≡ Some qs
         → (us : List ExprType) → all_types (value_types names at bs []) ≡ Some us → SaysAll c.width symbols calls now later us (taken f g bs) at.sets (taken_translation c (flat_branches names leaf at under bs))
     taken_says under f hf kf at no_branches n o l qs a us h = absurd_bool (sym n)
@@ -574,7 +574,7 @@ module _ (c : Coding) (symbols : List (List ℕ)) (some : 1 ≤ c.width) (calls 
         (choice_says k.1 k.0 at.sets (denote f g q).value (translation c (flat_tree names leaf (single at) under q)) (translation c (flat_tree names leaf at under v)) y (denote f g v) e
         ((says under f hf kf (single at) q b.0 (omega (arith, l)) m.0 m.2).value refl) (says under f hf kf at v b'.0 (omega (arith, l)) k.0 k.2) (taken_says under f hf kf at (branch s w rest) refl b'.1 (omega (arith, l)) m.1 m.3 k.1 k.3)))
 
-    members_say : (under : Bool) (f : Path → Value) → NamesLie names f → ((x : Path) → LeafStands c.width symbols c.place (if under then later else now) (leaf x) (f x)) → (at : Position) (es : Expressions) → part_operators es ≡ true → part_width names at es ≤ c.width → (us : List ExprType) → all_types (tree_types names at es) ≡ Some us
+    members_say : (under : Bool) (f : Path → Value) → NamesLie names f → ((x : Path) → LeafIsRepresented c.width symbols c.place (if under then later else now) (leaf x) (f x)) → (at : Position) (es : Expressions) → part_operators es ≡ true → part_width names at es ≤ c.width → (us : List ExprType) → all_types (tree_types names at es) ≡ Some us
         → (vals : List Datum) (y : Tree) (v : Value) → IsOfAll c.width symbols us v → term_value calls now later vals y ≡ datum_of c.width symbols v
         → term_values calls now later vals (members c (length vals) y (flat_trees names leaf at under es)) ≡ map (λ b. datum.Truth b) (permit_list f g es v)
     members_say under f hf kf at no_expressions o l us h vals y v k i = refl
@@ -584,7 +584,7 @@ module _ (c : Coding) (symbols : List (List ℕ)) (some : 1 ≤ c.width) (calls 
         let n : IsOfAll c.width symbols (m.0 ∷ m.1) v = subst (λ z. IsOfAll c.width symbols z v) (sym m.4) k in
         joined_cons _ _ _ _ ((says under f hf kf at e b.0 (omega (arith, l)) m.0 m.2).member vals y v n.0 i) (members_say under f hf kf at es b.1 (omega (arith, l)) m.1 m.3 vals y v n.1 i)
 
-    arguments_say : (under : Bool) (f : Path → Value) → NamesLie names f → ((x : Path) → LeafStands c.width symbols c.place (if under then later else now) (leaf x) (f x)) → (at : Position) (es : Expressions) → part_operators es ≡ true → part_width names (single at) es ≤ c.width → (us : List ExprType) → all_types (tree_types names (single at) es) ≡ Some us
+    arguments_say : (under : Bool) (f : Path → Value) → NamesLie names f → ((x : Path) → LeafIsRepresented c.width symbols c.place (if under then later else now) (leaf x) (f x)) → (at : Position) (es : Expressions) → part_operators es ≡ true → part_width names (single at) es ≤ c.width → (us : List ExprType) → all_types (tree_types names (single at) es) ≡ Some us
         → (vals : List Datum) → AreOfKinds c.width symbols us (values_of f g es) × AreCoded (term_value calls now later vals) (datum_of c.width symbols) (terms c (length vals) (flat_trees names leaf (single at) under es)) (values_of f g es)
     arguments_say under f hf kf at no_expressions o l [] h vals = (tt, tt)
     arguments_say under f hf kf at no_expressions o l (u ∷ us) h vals = cc
@@ -595,7 +595,7 @@ module _ (c : Coding) (symbols : List (List ℕ)) (some : 1 ≤ c.width) (calls 
         let r = arguments_say under f hf kf at es b.1 (omega (arith, l)) m.1 m.3 vals in
         (subst (λ z. AreOfKinds c.width symbols z (values_of f g (expression e es))) m.4 (i.kind refl, r.0), (i.value refl vals, r.1))
 
-    folded_says : (under : Bool) (f : Path → Value) → NamesLie names f → ((x : Path) → LeafStands c.width symbols c.place (if under then later else now) (leaf x) (f x)) → (q : Position) → q.sets ≡ false → (p : Place) (a : Typing) (ta : ExprType) → a.type ≡ Some ta → (d : Denotation) (ls : Links) → link_operators ls ≡ true
+    folded_says : (under : Bool) (f : Path → Value) → NamesLie names f → ((x : Path) → LeafIsRepresented c.width symbols c.place (if under then later else now) (leaf x) (f x)) → (q : Position) → q.sets ≡ false → (p : Place) (a : Typing) (ta : ExprType) → a.type ≡ Some ta → (d : Denotation) (ls : Links) → link_operators ls ≡ true
         → fronts_width names q p a ls ≤ c.width → (t : ExprType) → (linked names q p a ls).type ≡ Some t → (vals : List Datum) (m : ℕ) (acc : Tree) → Front c.width symbols calls now later vals ta d.value m acc
         → term_value calls now later vals (folded_term c (length vals) m acc (flat_links names leaf q under ls)) ≡ datum_of c.width symbols (linked_values f g d ls).value
     folded_says under f hf kf q s p a ta e d no_links o l t h vals m acc b = b.value
@@ -607,7 +607,7 @@ module _ (c : Coding) (symbols : List (List ℕ)) (some : 1 ≤ c.width) (calls 
         folded_says under f hf kf q s p fr r.0 r.1 (joined i d (denote f g x)) ls k.1 (omega (arith, l)) t h vals (front_width i m (word_width (flat_tree names leaf (behind i q) under x))) _
         (front_says under f hf kf q s p a ta e d i x k.0 (λ z w u y. says under f hf kf z x k.0 w u y) (omega (arith, l)) r.0 r.1 fits vals false m acc b)
 
-    joined_says : (under : Bool) (f : Path → Value) → NamesLie names f → ((x : Path) → LeafStands c.width symbols c.place (if under then later else now) (leaf x) (f x)) → (q : Position) → q.sets ≡ false → (p : Place) (a : Typing) (ta : ExprType) → a.type ≡ Some ta → (d : Denotation) (i : Infix) → joins_with i i ≡ true → (ls : Links)
+    joined_says : (under : Bool) (f : Path → Value) → NamesLie names f → ((x : Path) → LeafIsRepresented c.width symbols c.place (if under then later else now) (leaf x) (f x)) → (q : Position) → q.sets ≡ false → (p : Place) (a : Typing) (ta : ExprType) → a.type ≡ Some ta → (d : Denotation) (i : Infix) → joins_with i i ≡ true → (ls : Links)
         → link_operators ls ≡ true → fronts_width names q p a ls ≤ c.width → (t : ExprType) → (linked names q p a ls).type ≡ Some t → all_join_with i (flat_links names leaf q under ls) ≡ true
         → (us : ExprType) → infix_fits i ta us ≡ true → LiesIn ta d.value → IsOfKind c.width symbols ta d.value → (vals : List Datum)
         → op_value (infix_op i (is_word_type ta)) (datum_of c.width symbols d.value ∷ term_values calls now later vals (link_terms c (length vals) (flat_links names leaf q under ls))) ≡ datum_of c.width symbols (linked_values f g d ls).value
@@ -644,7 +644,7 @@ module _ (c : Coding) (symbols : List (List ℕ)) (some : 1 ≤ c.width) (calls 
         (subst (λ z. LiesIn r.0 z) (sym meant) new) (subst (λ z. IsOfKind c.width symbols r.0 z) (sym meant) (known_kind c.width symbols r.0 (applied i' d.value w) fits' new (known_applied symbols i' d.value w))) vals
 
     -- a chain that is no set, read from the left or joined; its operands stand where no set may
-    unions_say : (under : Bool) (f : Path → Value) → NamesLie names f → ((x : Path) → LeafStands c.width symbols c.place (if under then later else now) (leaf x) (f x)) → (q : Position) (p : Place) (a : Typing) (ta : ExprType) → a.type ≡ Some ta → (ls : Links) → link_operators ls ≡ true → fronts_width names q p a ls ≤ c.width → are_unions ls ≡ true
+    unions_say : (under : Bool) (f : Path → Value) → NamesLie names f → ((x : Path) → LeafIsRepresented c.width symbols c.place (if under then later else now) (leaf x) (f x)) → (q : Position) (p : Place) (a : Typing) (ta : ExprType) → a.type ≡ Some ta → (ls : Links) → link_operators ls ≡ true → fronts_width names q p a ls ≤ c.width → are_unions ls ≡ true
         → (t : ExprType) → (linked names q p a ls).type ≡ Some t → (vals : List Datum) (y : Tree) (v : Value) → IsOfKind c.width symbols t v → term_value calls now later vals y ≡ datum_of c.width symbols v
         → IsOfKind c.width symbols ta v × (term_values calls now later vals (link_members c (length vals) y (flat_links names leaf q under ls)) ≡ map (λ b. datum.Truth b) (link_permits f g ls v))
     unions_say under f hf kf q p a ta e no_links o l n t h vals y v k i = (subst (λ z. IsOfKind c.width symbols z v) (some_same t ta (sym h ∙ e)) k, refl)
@@ -661,7 +661,7 @@ module _ (c : Coding) (symbols : List (List ℕ)) (some : 1 ≤ c.width) (calls 
         )
     unions_say under f hf kf q p a ta e (link i' x ls) o l n t h vals y v k i = absurd_bool n
 
-    implied_says : (under : Bool) (f : Path → Value) → NamesLie names f → ((x : Path) → LeafStands c.width symbols c.place (if under then later else now) (leaf x) (f x)) → (at : Position) (u : ExprType) (us : List ExprType) (v : Value) (ls : Links) → link_operators ls ≡ true → implied_width names (single at) ls ≤ c.width
+    implied_says : (under : Bool) (f : Path → Value) → NamesLie names f → ((x : Path) → LeafIsRepresented c.width symbols c.place (if under then later else now) (leaf x) (f x)) → (at : Position) (u : ExprType) (us : List ExprType) (v : Value) (ls : Links) → link_operators ls ≡ true → implied_width names (single at) ls ≤ c.width
         → all_types (link_types names (single at) ls) ≡ Some us → list_all (logical_fits u) us ≡ true → are_implies ls ≡ true → IsOfKind c.width symbols u v → (vals : List Datum) (a : Tree) → term_value calls now later vals a ≡ datum_of c.width symbols v
         → (term_value calls now later vals (implied_term c (length vals) a (flat_links names leaf (single at) under ls)) ≡ datum_of c.width symbols (implications f g v ls)) × IsOfKind c.width symbols u (implications f g v ls)
     implied_says under f hf kf at u us v no_links o l h n m k vals a i = (i, k)
@@ -684,6 +684,6 @@ module _ (c : Coding) (symbols : List (List ℕ)) (some : 1 ≤ c.width) (calls 
     implied_says under f hf kf at u us v (link i' x ls) o l h n m k vals a i = absurd_bool m
 
     -- a chain of `->` alone
-    first_say : (under : Bool) (f : Path → Value) → NamesLie names f → ((x : Path) → LeafStands c.width symbols c.place (if under then later else now) (leaf x) (f x)) → (es : Expressions) → part_operators es ≡ true → FirstSays under f es
+    first_say : (under : Bool) (f : Path → Value) → NamesLie names f → ((x : Path) → LeafIsRepresented c.width symbols c.place (if under then later else now) (leaf x) (f x)) → (es : Expressions) → part_operators es ≡ true → FirstSays under f es
     first_say under f hf kf no_expressions o = tt
     first_say under f hf kf (expression e es) o = λ q w u k. says under f hf kf q e (both_true (has_operators e) (part_operators es) o).0 w u k

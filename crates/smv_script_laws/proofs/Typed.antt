@@ -22,7 +22,7 @@ use Rattle.smv_laws.proofs.OperatorLaws.{width_of}
 use Rattle.smv_laws.proofs.TypeLaws.{NamesLie, fine, two_tests}
 use Rattle.moxi_terms.specs.declared.data.Primes.{Primes}
 use Rattle.moxi_terms.specs.declared.data.Primes.TheVariants.{Allowed, Refused}
-use Rattle.moxi_term_print.specs.Standing.{StandsPrime}
+use Rattle.moxi_term_print.specs.WellScoped.{IsAllowedPrime}
 use Rattle.smv_script_laws.proofs.Typings.{node_typed, some_same}
 use Rattle.smv_script_laws.proofs.SortedRows.{TypeFits}
 
@@ -80,7 +80,7 @@ across_nexts ls q = by (are_unions ls)
     by true = refl
     by false = refl
 
-pub never_primed : (primes : Primes) → StandsPrime primes false
+pub never_primed : (primes : Primes) → IsAllowedPrime primes false
 never_primed Allowed = tt
 never_primed Refused = refl
 

@@ -31,9 +31,9 @@ use Rattle.moxi_terms.specs.Value.{Values}
 use Rattle.smv_script.specs.Codes.{integer_bits, number_or_zero, datum_of}
 use Rattle.smv_script.specs.Terms.{Coding, translation}
 use Rattle.smv_script_laws.specs.Meanings.{Says}
-use Rattle.smv_script_laws.specs.TermLaws.{HasRow, TermsHaveValues, ValuesComeBack, DataComeBack}
+use Rattle.smv_script_laws.specs.TermLaws.{HasRow, TermsHaveValues, ValuesRoundTrip, DataRoundTrip}
 use Rattle.smv_script_laws.proofs.Integers.{same_code, signed_back}
-use Rattle.smv_script_laws.proofs.Parts.{LeafStands}
+use Rattle.smv_script_laws.proofs.Parts.{LeafIsRepresented}
 use Rattle.smv_script_laws.proofs.Translations.{says}
 
 -- ---- what paths become
@@ -73,17 +73,17 @@ items_are : (t : List Instance) → length (flat_of t).items ≡ length (origins
 items_are t = search length-map
 
 leaf_stands : (t : List Instance) (c : Coding) (state label : Valuation) (row : Row) (env : Values) → HasRow t c state label row env → (l : Leaf) → IsPlaced t l
-    → LeafStands c.width (symbols_of t) c.place env l (leaf_value (symbol_value (symbols_of t)) row l)
+    → LeafIsRepresented c.width (symbols_of t) c.place env l (leaf_value (symbol_value (symbols_of t)) row l)
 leaf_stands t c state label row env r (of_item k) p = let b : k < length (flat_of t).items = omega (arith, p, items_are t) in (r.coded k b, r.known k b)
 leaf_stands t c state label row env r (of_symbol s) p =
     let e : symbol_value (symbols_of t) s ≡ Symbol p.0 = ap symbol_or_none p.1 in
-    subst (λ v. LeafStands c.width (symbols_of t) c.place env (of_symbol s) v) (sym e) (ap (λ n. datum.Constant 0 n) (sym (ap number_or_zero p.2)), (s, p.2))
+    subst (λ v. LeafIsRepresented c.width (symbols_of t) c.place env (of_symbol s) v) (sym e) (ap (λ n. datum.Constant 0 n) (sym (ap number_or_zero p.2)), (s, p.2))
 leaf_stands t c state label row env r of_nothing p = (refl, tt)
 
 path_stands : (t : List Instance) → Acyclic t → (c : Coding) (state label : Valuation) (row : Row) (env : Values) → HasRow t c state label row env → (i : ℕ) (x : Path)
-    → LeafStands c.width (symbols_of t) c.place env (leaf_in t i x) (values_in t state label i x)
+    → LeafIsRepresented c.width (symbols_of t) c.place env (leaf_in t i x) (values_in t state label i x)
 path_stands t a c state label row env r i x =
-    subst (λ v. LeafStands c.width (symbols_of t) c.place env (leaf_in t i x) v) (row_values t a state label row r.is_row i x)
+    subst (λ v. LeafIsRepresented c.width (symbols_of t) c.place env (leaf_in t i x) v) (row_values t a state label row r.is_row i x)
     (leaf_stands t c state label row env r (leaf_in t i x) (leaf_placed t (found_in t i x)))
 
 names_lie : (t : List Instance) (c : Coding) (state label : Valuation) (row : Row) (env : Values) → HasRow t c state label row env → (i : ℕ) → NamesLie (types_in true t i) (values_in t state label i)
@@ -97,7 +97,7 @@ terms_have_values_law t a c some state label following other now later calls fir
 
 -- ---- codes
 
-pub values_come_back_law : ValuesComeBack
+pub values_come_back_law : ValuesRoundTrip
 values_come_back_law width symbols some truth_type (Truth b) h = refl
 values_come_back_law width symbols some truth_type v h = absurd h
 values_come_back_law width symbols some (integer_type low high) (Integer z) h = ap Integer (signed_back width z some h)
@@ -116,7 +116,7 @@ bits_back w b h = by (nat_lt b (2 ^ (w - 1))) ∙ mod-eq_of_lt h
     by true = refl
     by false = same_code w (pos b -ℤ pos (2 ^ w)) (pos b) 1 0 (omega (arith, ints))
 
-pub data_come_back_law : DataComeBack
+pub data_come_back_law : DataRoundTrip
 data_come_back_law width symbols some once truth_type (datum.Truth b) h = refl
 data_come_back_law width symbols some once truth_type d h = absurd h
 data_come_back_law width symbols some once (integer_type low high) (datum.Bits w) h =

@@ -40,39 +40,39 @@ use Rattle.moxi_terms.specs.declared.term.Enumeration.{Enumeration}
 use Rattle.moxi_terms.specs.Tree.{Tree, constant, variable as var, trees_of}
 use Rattle.moxi_term_reading.specs.declared.locals.Local.{Local}
 use Rattle.moxi_term_reading.specs.Answer.{locals_of}
-use Rattle.moxi_term_print.specs.Standing.{Stands, StandEach, StandsPrime}
+use Rattle.moxi_term_print.specs.WellScoped.{IsWellScoped, AreWellScoped, IsAllowedPrime}
 use Rattle.moxi_scripts.specs.Script.{PlainFormula}
 use Rattle.smv_script.specs.Codes.{sort_of, symbol_datum, number_or_zero}
 use Rattle.smv_script.specs.Operators.{equal_term, integer_term}
 use Rattle.smv_script.specs.Terms.{Coding, translation}
 use Rattle.smv_script.specs.Script.{coding_of, all_term, member_term, interval_parts, domain_parts, body_part, body_parts, invar_item, trans_item, item_parts, is_following, form_parts, numbered_parts, instance_parts, parts_upto, above_items, above_forms, formula_of, reachables_from, symbol_sort}
 use Rattle.smv_script_laws.specs.PlaceLaws.{all_variables}
-use Rattle.smv_script_laws.specs.Standing.{CanStand}
-use Rattle.smv_script_laws.specs.StandingLaws.{place_in_script}
+use Rattle.smv_script_laws.specs.WellScoped.{CanAppear}
+use Rattle.smv_script_laws.specs.WellScopedLaws.{place_in_script}
 use Rattle.smv_script_laws.proofs.Applied.{equal_stands, not_stands, integer_stands, between_stands, any_stands, and_stands}
 use Rattle.smv_script_laws.proofs.SortedRows.{same_sort_of, hull_of_sorts}
 use Rattle.smv_script_laws.proofs.Typed.{never_primed}
 use Rattle.smv_script_laws.proofs.Declared.{symbol_placed}
 use Rattle.smv_script_laws.proofs.Leaves.{ItemsDiffer}
 use Rattle.smv_script_laws.proofs.Sorts.{instances_symbol}
-use Rattle.smv_script_laws.proofs.SortLaws.{item_stands, truth_can, symbol_can, expressions_stand}
+use Rattle.smv_script_laws.proofs.SortLaws.{item_stands, truth_can, symbol_can, expressions_are_well_scoped}
 use Rattle.smv_script_laws.proofs.PrintedForms.{IsOfSound, IsTyped, AreTyped, HasItem, IsRole}
 use Rattle.smv_script_laws.proofs.Typings.{node_typed, some_same}
 use Rattle.moxi_term_print.proofs.SortedTerms.{copies}
 use Rattle.name_maps.proofs.FreshNames.{all_joined}
 use Rattle.name_maps.specs.laws.Places.{place_below}
 
--- primes stand in transitions alone
+-- primes are in transitions alone
 abbrev pub primes_of : When → Primes
 primes_of Following = Allowed
 primes_of when = Refused
 
-target_primes : (when : When) → StandsPrime (primes_of when) (is_following when)
+target_primes : (when : When) → IsAllowedPrime (primes_of when) (is_following when)
 target_primes Following = tt
 target_primes First = refl
 target_primes Always = refl
 
-body_primes : (w when : When) → when_same w when ≡ true → StandsPrime (primes_of when) (in_assignment w).nexts
+body_primes : (w when : When) → when_same w when ≡ true → IsAllowedPrime (primes_of when) (in_assignment w).nexts
 body_primes Always Always h = refl
 body_primes First First h = refl
 body_primes Following Following h = tt
@@ -107,27 +107,27 @@ module _ (t : List Instance) (w : ℕ) (some : 1 ≤ w) (most : w ≤ WIDEST) (a
 
   -- a term of truth values over the system's variables
   abbrev pub IsFormulaIn : Primes → Tree → Type 0
-  IsFormulaIn primes x = Stands (place_in_script (flat_of t) w primes) [] x sort.Truth
+  IsFormulaIn primes x = IsWellScoped (place_in_script (flat_of t) w primes) [] x sort.Truth
 
   abbrev pub AreFormulasIn : Primes → List Tree → Type 0
   AreFormulasIn primes xs = AllByRecursion (IsFormulaIn primes) xs
 
   -- what stands for a sound expression can stand
-  sound_can : (primes : Primes) (at : Position) (b : FlatTree) (u : ExprType) → StandsPrime primes at.nexts → IsOfSound t at b u → tree_width b ≤ w → CanStand (place_in_script (flat_of t) w primes) (sort_of w u) at.sets (translation c b)
+  sound_can : (primes : Primes) (at : Position) (b : FlatTree) (u : ExprType) → IsAllowedPrime primes at.nexts → IsOfSound t at b u → tree_width b ≤ w → CanAppear (place_in_script (flat_of t) w primes) (sort_of w u) at.sets (translation c b)
   sound_can primes at b u n s l =
       let e = s.sound in
       let width = same_width (types_in true t s.instance) (leaf_in t s.instance) at false s.expression e.operators e.checks in
       let low : tree_width _ ≤ w = subst (λ z. tree_width z ≤ w) s.same l in
-      subst (λ z. CanStand (place_in_script (flat_of t) w primes) (sort_of w u) at.sets (translation c z)) (sym s.same)
-      (expressions_stand t acyclic fresh w some most primes s.instance at n s.expression e.operators (subst (λ n. n ≤ w) width low) u e.typed)
+      subst (λ z. CanAppear (place_in_script (flat_of t) w primes) (sort_of w u) at.sets (translation c z)) (sym s.same)
+      (expressions_are_well_scoped t acyclic fresh w some most primes s.instance at n s.expression e.operators (subst (λ n. n ≤ w) width low) u e.typed)
 
   origin_item : (k : ℕ) (m : Origin) → slice_get (origins_of t) k ≡ Some m → slice_get (flat_of t).items k ≡ Some (flat_item_of t m)
   origin_item k m h = slice_get-map (flat_item_of t) (origins_of t) k ∙ ap (option_map (flat_item_of t)) h
 
   -- the variable of an item with this type
-  item_can : (primes : Primes) (k : ℕ) (primed : Bool) (u : ExprType) → StandsPrime primes primed → HasItem t k u → Stands (place_in_script (flat_of t) w primes) [] (var (c.place k) primed) (sort_of w u)
+  item_can : (primes : Primes) (k : ℕ) (primed : Bool) (u : ExprType) → IsAllowedPrime primes primed → HasItem t k u → IsWellScoped (place_in_script (flat_of t) w primes) [] (var (c.place k) primed) (sort_of w u)
   item_can primes k primed u p h =
-      subst (λ (o : Option ExprType). Stands (place_in_script (flat_of t) w primes) [] (var (c.place k) primed) (sort_of w (type_or_truth o))) h.typed
+      subst (λ (o : Option ExprType). IsWellScoped (place_in_script (flat_of t) w primes) [] (var (c.place k) primed) (sort_of w (type_or_truth o))) h.typed
       (item_stands t w some most fresh primes [] tt k primed p (flat_item_of t h.origin) (origin_item k h.origin h.there))
 
   -- ---- bodies
@@ -156,7 +156,7 @@ module _ (t : List Instance) (w : ℕ) (some : 1 ≤ w) (most : w ≤ WIDEST) (a
 
   -- ---- the values of a variable's type
 
-  interval_can : (primes : Primes) (x : Tree) (u : ExprType) → Stands (place_in_script (flat_of t) w primes) [] x (sort_of w u) → AreFormulasIn primes (interval_parts w x u)
+  interval_can : (primes : Primes) (x : Tree) (u : ExprType) → IsWellScoped (place_in_script (flat_of t) w primes) [] x (sort_of w u) → AreFormulasIn primes (interval_parts w x u)
   interval_can primes x (integer_type low high) h = (between_stands es vs primes [] w low high x some most h, tt)
   interval_can primes x truth_type h = tt
   interval_can primes x symbol_type h = tt
@@ -166,18 +166,18 @@ module _ (t : List Instance) (w : ℕ) (some : 1 ≤ w) (most : w ≤ WIDEST) (a
   abbrev ArePlaced : List Member → Type 0
   ArePlaced ms = (s : List ℕ) → In (OfMember.Symbol s) ms → (i : ℕ) × (place_of (symbols_of t) s ≡ Some i)
 
-  member_can : (primes : Primes) (x : Tree) (s : Sort) (m : Member) → ((y : List ℕ) → m ≡ OfMember.Symbol y → (i : ℕ) × (place_of (symbols_of t) y ≡ Some i)) → sort_of w (member_type m) ≡ s → Stands (place_in_script (flat_of t) w primes) [] x s
+  member_can : (primes : Primes) (x : Tree) (s : Sort) (m : Member) → ((y : List ℕ) → m ≡ OfMember.Symbol y → (i : ℕ) × (place_of (symbols_of t) y ≡ Some i)) → sort_of w (member_type m) ≡ s → IsWellScoped (place_in_script (flat_of t) w primes) [] x s
       → IsFormulaIn primes (member_term w (symbols_of t) x m)
   member_can primes x s (OfMember.Symbol y) p e h =
       let i = p y refl in
-      equal_stands es vs primes [] (sort.Choice 0) x (constant (symbol_datum (symbols_of t) y)) (subst (Stands (place_in_script (flat_of t) w primes) [] x) (sym e) h)
-      (subst (λ (o : Option ℕ). Stands (place_in_script (flat_of t) w primes) [] (constant (datum.Constant 0 (number_or_zero o))) (sort.Choice 0)) (sym i.1)
+      equal_stands es vs primes [] (sort.Choice 0) x (constant (symbol_datum (symbols_of t) y)) (subst (IsWellScoped (place_in_script (flat_of t) w primes) [] x) (sym e) h)
+      (subst (λ (o : Option ℕ). IsWellScoped (place_in_script (flat_of t) w primes) [] (constant (datum.Constant 0 (number_or_zero o))) (sort.Choice 0)) (sym i.1)
       (symbol_can t w some most fresh primes [] tt i.0 (place_below (symbols_of t) y i.0 i.1)))
   member_can primes x s (OfMember.Integer z) p e h =
-      equal_stands es vs primes [] (sort.Bits w) x (integer_term w z) (subst (Stands (place_in_script (flat_of t) w primes) [] x) (sym e) h) (integer_stands es vs primes [] w z some most)
+      equal_stands es vs primes [] (sort.Bits w) x (integer_term w z) (subst (IsWellScoped (place_in_script (flat_of t) w primes) [] x) (sym e) h) (integer_stands es vs primes [] w z some most)
 
-  members_can : (primes : Primes) (x : Tree) (s : Sort) (ms : List Member) → ArePlaced ms → AllByRecursion (λ u. sort_of w u ≡ s) (map member_type ms) → Stands (place_in_script (flat_of t) w primes) [] x s
-      → StandEach (place_in_script (flat_of t) w primes) [] (trees_of (map (member_term w (symbols_of t) x) ms)) (copies sort.Truth (trees_of (map (member_term w (symbols_of t) x) ms)))
+  members_can : (primes : Primes) (x : Tree) (s : Sort) (ms : List Member) → ArePlaced ms → AllByRecursion (λ u. sort_of w u ≡ s) (map member_type ms) → IsWellScoped (place_in_script (flat_of t) w primes) [] x s
+      → AreWellScoped (place_in_script (flat_of t) w primes) [] (trees_of (map (member_term w (symbols_of t) x) ms)) (copies sort.Truth (trees_of (map (member_term w (symbols_of t) x) ms)))
   members_can primes x s [] p e h = tt
   members_can primes x s (m ∷ ms) p e h = (member_can primes x s m (λ y g. p y (inl (sym g))) e.0 h, members_can primes x s ms (λ y g. p y (inr g)) e.1 h)
 
@@ -188,7 +188,7 @@ module _ (t : List Instance) (w : ℕ) (some : 1 ≤ w) (most : w ≤ WIDEST) (a
       let b = both_true _ true a.0 in
       ((both_true (are_same (map member_type ms)) (in_limit (hull_of (map member_type ms))) b.0).0, some_same (hull_of (map member_type ms)) u n.1)
 
-  domain_can : (primes : Primes) (x : Tree) (d : PlainDomain) (u : ExprType) → variable_type d ≡ Some u → ((ms : List Member) → d ≡ members ms → ArePlaced ms) → Stands (place_in_script (flat_of t) w primes) [] x (sort_of w u)
+  domain_can : (primes : Primes) (x : Tree) (d : PlainDomain) (u : ExprType) → variable_type d ≡ Some u → ((ms : List Member) → d ≡ members ms → ArePlaced ms) → IsWellScoped (place_in_script (flat_of t) w primes) [] x (sort_of w u)
       → AreFormulasIn primes (domain_parts w (symbols_of t) x u (domain_members d))
   domain_can primes x boolean u e p h = interval_can primes x u h
   domain_can primes x (members []) u e p h = interval_can primes x u h
@@ -235,7 +235,7 @@ module _ (t : List Instance) (w : ℕ) (some : 1 ≤ w) (most : w ≤ WIDEST) (a
 
     -- ---- parts of formulas
 
-    one_can : (primes : Primes) (at : Position) (b : FlatTree) → at.sets ≡ false → StandsPrime primes at.nexts → IsOfSound t at b truth_type → tree_width b ≤ w → IsFormulaIn primes ((translation c b).term 0)
+    one_can : (primes : Primes) (at : Position) (b : FlatTree) → at.sets ≡ false → IsAllowedPrime primes at.nexts → IsOfSound t at b truth_type → tree_width b ≤ w → IsFormulaIn primes ((translation c b).term 0)
     one_can primes at b s n h l = (sound_can primes at b truth_type n h l).value s [] tt
 
     role_formulas : (when : When) (r : Role) (b : FlatTree) → IsRole t r b → tree_width b ≤ w → AreFormulasIn (primes_of when) (form_parts c when r b)
@@ -243,7 +243,7 @@ module _ (t : List Instance) (w : ℕ) (some : 1 ≤ w) (most : w ≤ WIDEST) (a
         all_if (IsFormulaIn (primes_of when)) (when_same v when) ((translation c b).member 0 (var (c.place k) (is_following when)) ∷ [])
         (λ e. (
           (sound_can (primes_of when) (in_assignment v) b h.1 (body_primes v when e) h.4 l).member [] tt (var (c.place k) (is_following when))
-              (subst (Stands (place_in_script (flat_of t) w (primes_of when)) [] (var (c.place k) (is_following when))) (sym (same_sort_of w h.0 h.1 h.3))
+              (subst (IsWellScoped (place_in_script (flat_of t) w (primes_of when)) [] (var (c.place k) (is_following when))) (sym (same_sort_of w h.0 h.1 h.3))
               (item_can (primes_of when) k (is_following when) h.0 (target_primes when) h.2)),
           tt,
         ))
@@ -287,7 +287,7 @@ module _ (t : List Instance) (w : ℕ) (some : 1 ≤ w) (most : w ≤ WIDEST) (a
       parts_formulas when zero = tt
       parts_formulas when (suc n) = all_joined (IsFormulaIn (primes_of when)) (parts_upto (flat_of t) c when n) (instance_parts (flat_of t) c when n) (parts_formulas when n) (instance_formulas when n)
 
-      each_stands : (primes : Primes) (xs : List Tree) → AreFormulasIn primes xs → StandEach (place_in_script (flat_of t) w primes) [] (trees_of xs) (copies sort.Truth (trees_of xs))
+      each_stands : (primes : Primes) (xs : List Tree) → AreFormulasIn primes xs → AreWellScoped (place_in_script (flat_of t) w primes) [] (trees_of xs) (copies sort.Truth (trees_of xs))
       each_stands primes [] h = tt
       each_stands primes (x ∷ xs) h = (h.0, each_stands primes xs h.1)
 

@@ -1,4 +1,4 @@
--- The script of a spelled and accepted model is whole.
+-- The script of a spelled and accepted model is valid.
 use Rattle.std.proofs.Common.{◌≡◌, ℕ, zero, suc, ◌+◌, ◌≤◌, ◌<◌, ◌^◌, Bool, true, false, ◌||◌, nat_le, List, [], ◌∷◌, ◌++◌, map, drop, length, decimal, Option, Some, None, is_some, is_none, refl, sym, ap, ◌∙◌, subst, arith, append-nil}
 use Rattle.std.specs.Prelude.{slice_get, codes}
 use Rattle.std.specs.List.{AllByRecursion, list_any, list_all}
@@ -41,7 +41,7 @@ use Rattle.moxi_terms.specs.Names.{all_constants, enumeration_names, function_na
 use Rattle.name_maps.specs.Names.{place_of, are_fresh}
 use Rattle.moxi_terms.specs.View.{ScopeState}
 use Rattle.moxi_term_print.specs.Terms.{variable_names}
-use Rattle.moxi_scripts.specs.Whole.{is_fixed_sort, is_fixed_term, AreNames, AreVariables, IsWholeScope, IsWholeSystem, AreWholeSystems, formula_names, IsWholeQuery, query_names, IsWholeCheck, IsWhole}
+use Rattle.moxi_scripts.specs.Valid.{is_fixed_sort, is_fixed_term, AreNames, AreVariables, IsValidScope, IsValidSystem, AreValidSystems, formula_names, IsValidQuery, query_names, IsValidCheck, IsValid}
 use Rattle.moxi_scripts.specs.laws.WholeNames.{is_absent}
 use Rattle.smv_script.specs.Script.{symbol_sort, system_of, reachables_from, queries_from, check_of, coding_of, script_of}
 use Rattle.smv_script.specs.Terms.{Coding}
@@ -52,7 +52,7 @@ use Rattle.smv_script_laws.proofs.SortedVariables.{IsFree, all_free, variables_d
 use Rattle.smv_script_laws.proofs.Constants.{constant_of, constants_apart}
 use Rattle.smv_script_laws.proofs.Sorts.{variables_sorts}
 use Rattle.smv_script_laws.proofs.SortLaws.{width_some}
-use Rattle.smv_script_laws.specs.WholeLaws.{ScriptsAreWhole}
+use Rattle.smv_script_laws.specs.ValidLaws.{ScriptsAreValid}
 use Rattle.smv_script_laws.proofs.PrintedForms.{AreTyped, IsRole, items_typed, forms_roles}
 use Rattle.smv_script_laws.proofs.WholeParts.{IsReady, formula_stands, reachables_formulas, forms_low, both_all}
 use Rattle.name_maps.proofs.FreshNames.{AllDiffer, Lacks, all_fresh, all_made, all_mapped}
@@ -91,7 +91,7 @@ terms_named t =
 nothing_there : {X : Type 0} {Y : Type 0} (n : ℕ) (x : X) → slice_get (let e : List X = [] in e) n ≡ Some x → Y
 nothing_there n x h = cc
 
-whole_scope : (t : List Instance) → IsWholeScope (scope_of (symbols_of t))
+whole_scope : (t : List Instance) → IsValidScope (scope_of (symbols_of t))
 whole_scope t = record {
   scope = record { enumerations = constants_nonempty (symbols_of t); sorts = tt; functions = λ n f h. nothing_there n f h };
   sorts = sorts_named (symbols_of t);
@@ -155,7 +155,7 @@ pub queries_long : (j : ℕ) (bs : List FlatTree) → length (queries_from j bs)
 queries_long j [] = refl
 queries_long j (b ∷ bs) = ap suc (queries_long (j + 1) bs)
 
-queries_whole : (n j : ℕ) (bs : List FlatTree) → j + length bs ≤ n → AllByRecursion (IsWholeQuery 0 0 n) (queries_from j bs)
+queries_whole : (n j : ℕ) (bs : List FlatTree) → j + length bs ≤ n → AllByRecursion (IsValidQuery 0 0 n) (queries_from j bs)
 queries_whole n j [] h = tt
 queries_whole n j (b ∷ bs) h = (record { assumptions_there = tt; currents_there = tt; reachables_there = (omega (arith, h), tt); reachables_differ = refl }, queries_whole n (j + 1) bs (omega (arith, h)))
 
@@ -176,7 +176,7 @@ module _ (t : List Instance) (w : ℕ) (some : 1 ≤ w) (most : w ≤ WIDEST) (a
     sorts = variables_sorts t w some most;
   }
 
-  whole_system : IsWholeSystem (scope_of (symbols_of t)) (system_of (flat_of t) w ∷ []) (system_of (flat_of t) w)
+  whole_system : IsValidSystem (scope_of (symbols_of t)) (system_of (flat_of t) w ∷ []) (system_of (flat_of t) w)
   whole_system = record {
     variables = whole_variables;
     init = formula_stands t w some most acyclic fresh forms items First;
@@ -186,14 +186,14 @@ module _ (t : List Instance) (w : ℕ) (some : 1 ≤ w) (most : w ≤ WIDEST) (a
     subsystems = tt;
   }
 
-  whole_systems : AreWholeSystems (scope_of (symbols_of t)) (system_of (flat_of t) w ∷ [])
+  whole_systems : AreValidSystems (scope_of (symbols_of t)) (system_of (flat_of t) w ∷ [])
   whole_systems = record {
     names = refl;
     systems = (whole_system, tt);
     acyclic = never_returns ([] ∷ []) (0 ∷ []) (record { within = refl; whole = only_node; once = refl; falls = refl });
   }
 
-  whole_check : IsWholeCheck (scope_of (symbols_of t)) (system_of (flat_of t) w ∷ []) (check_of (flat_of t) w)
+  whole_check : IsValidCheck (scope_of (symbols_of t)) (system_of (flat_of t) w ∷ []) (check_of (flat_of t) w)
   whole_check = record {
     there = omega arith;
     fits = record { inputs = refl; outputs = refl; locals = refl };
@@ -211,7 +211,7 @@ module _ (t : List Instance) (w : ℕ) (some : 1 ≤ w) (most : w ≤ WIDEST) (a
     };
   }
 
-  pub whole_script : IsWhole (script_of (flat_of t) w)
+  pub whole_script : IsValid (script_of (flat_of t) w)
   whole_script = record { scope = whole_scope t; systems = whole_systems; check = whole_check }
 
 -- ---- the script of a model
@@ -231,8 +231,8 @@ few_invariants source end xs spelled needed accepted =
     let l = queries_long 0 (forms_invariants (flat_smv source).forms) in
     omega (arith, w, n, l)
 
-pub scripts_are_whole_law : ScriptsAreWhole
-scripts_are_whole_law source end text xs lexed spelled needed accepted =
+pub scripts_are_valid_law : ScriptsAreValid
+scripts_are_valid_law source end text xs lexed spelled needed accepted =
     let t = instances_of source in
     let w = width_of (flat_smv source) in
     let checked = accepted_is_checked_law source needed accepted in

@@ -26,7 +26,7 @@ abbrev pub CountsByWeight : Type 0
 CountsByWeight = (source : PlainSource) (end : Place) (xs : List Token) → SpellsSource source end xs → (width : ℕ)
     → length (variables_in (system_of (flat_smv source) width)) + length (check_of (flat_smv source) width).queries ≤ weight_of source
 
--- each symbol stands in a module's body
+-- each symbol is in a module's body
 abbrev pub SymbolsByWeight : Type 0
 SymbolsByWeight = (source : PlainSource) (end : Place) (xs : List Token) → SpellsSource source end xs → length (symbols_of (instances_of source)) ≤ weight_of source
 

@@ -9,6 +9,6 @@ pub mod EnvironmentLaws
 pub mod RunLaws
 pub mod BoundLaws
 pub mod LetNames
-pub mod Standing
-pub mod StandingLaws
-pub mod WholeLaws
+pub mod WellScoped
+pub mod WellScopedLaws
+pub mod ValidLaws

@@ -13,7 +13,7 @@ abbrev pub HasPlace : Type 0
 HasPlace = (width : ℕ) (items : List PlainFlatItem) (k : ℕ) (m : PlainFlatItem) → slice_get items k ≡ Some m
     → slice_get (all_variables width items) (place_of_item items k) ≡ Some (variable_of width m)
 
--- the variable is that of an item, which stands there in the list of items
+-- the variable is that of an item, which is there in the list of items
 pub record IsOfItem (width : ℕ) (items : List PlainFlatItem) (v : ℕ) (x : Variable) : Type 0 where
   pub number : ℕ
   pub item : PlainFlatItem

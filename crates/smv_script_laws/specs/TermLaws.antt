@@ -49,13 +49,13 @@ IsDatum width symbols (word_type n) (datum.Bits w) = (w.width ≡ n) × IsWord w
 IsDatum width symbols t d = ⊥
 
 -- each symbol stands once
-abbrev pub StandOnce : List (List ℕ) → Type 0
-StandOnce symbols = (i : ℕ) (s : List ℕ) → slice_get symbols i ≡ Some s → place_of symbols s ≡ Some i
+abbrev pub AreDistinct : List (List ℕ) → Type 0
+AreDistinct symbols = (i : ℕ) (s : List ℕ) → slice_get symbols i ≡ Some s → place_of symbols s ≡ Some i
 
 -- a value of the type's kind comes back from its datum
-abbrev pub ValuesComeBack : Type 0
-ValuesComeBack = (width : ℕ) (symbols : List (List ℕ)) → 1 ≤ width → (t : ExprType) (v : Value) → IsOfKind width symbols t v → value_of symbols t (datum_of width symbols v) ≡ v
+abbrev pub ValuesRoundTrip : Type 0
+ValuesRoundTrip = (width : ℕ) (symbols : List (List ℕ)) → 1 ≤ width → (t : ExprType) (v : Value) → IsOfKind width symbols t v → value_of symbols t (datum_of width symbols v) ≡ v
 
 -- a datum of the type's sort comes back from its value
-abbrev pub DataComeBack : Type 0
-DataComeBack = (width : ℕ) (symbols : List (List ℕ)) → 1 ≤ width → StandOnce symbols → (t : ExprType) (d : Datum) → IsDatum width symbols t d → datum_of width symbols (value_of symbols t d) ≡ d
+abbrev pub DataRoundTrip : Type 0
+DataRoundTrip = (width : ℕ) (symbols : List (List ℕ)) → 1 ≤ width → AreDistinct symbols → (t : ExprType) (d : Datum) → IsDatum width symbols t d → datum_of width symbols (value_of symbols t d) ≡ d

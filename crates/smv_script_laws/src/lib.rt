@@ -21,6 +21,6 @@ pub use environment_laws::{environments_are_rows, rows_have_environments};
 pub use formula_laws::{forms_say, formula_splits, items_say};
 pub use place_laws::{item_has_place, place_is_of_item, places_differ};
 pub use run_laws::runs_are_traces;
-pub use sort_laws::terms_stand;
+pub use sort_laws::terms_are_well_scoped;
 pub use term_laws::{data_come_back, terms_have_values, values_come_back};
-pub use whole_laws::{names_are_spellable, scripts_are_spelled, scripts_are_whole};
+pub use whole_laws::{names_are_spellable, scripts_are_spelled, scripts_are_valid};

@@ -1,5 +1,5 @@
 // Laws of the values of terms. These functions do nothing.
-ghost use Rattle.smv_script_laws.specs.TermLaws.{TermsHaveValues, ValuesComeBack, DataComeBack};
+ghost use Rattle.smv_script_laws.specs.TermLaws.{TermsHaveValues, ValuesRoundTrip, DataRoundTrip};
 
 /// Proves that the term of each typed expression has the datum of the expression's value in the environments of the
 /// rows of two states.
@@ -14,10 +14,10 @@ pub fn terms_have_values()
 ///
 /// The width represents the integers of the value's type, and its symbols are the model's.
 pub fn values_come_back()
-    ensures { ValuesComeBack }
+    ensures { ValuesRoundTrip }
 {}
 
 /// Proves that encoding the decoded value of a datum of a type's sort returns the datum.
 pub fn data_come_back()
-    ensures { DataComeBack }
+    ensures { DataRoundTrip }
 {}

@@ -2,7 +2,7 @@
 use Rattle.std.specs.Prelude.{◌≡◌, ◌<◌, ◌≤◌, ℕ, suc, ◌+◌, ◌==◌, if◌then◌else◌, List, [], ◌∷◌, drop, length, slice_index_or}
 use Rattle.smv_script_terms.specs.declared.chains.Chains.{Chains}
 
--- how many others stand before the first of this number
+-- how many others are before the first of this number
 abbrev pub others_before : ℕ → List ℕ → ℕ
 others_before i [] = 0
 others_before i (n ∷ ns) = if n == i then 0 else suc (others_before i ns)

@@ -42,14 +42,14 @@ implied_end a (p ∷ ps) words b = infix_term Implies p.0 a (implied_end p.1 ps 
 
 -- ---- chains that are read from the left
 
--- an operand behind an operator, given how many names are bound: behind `in` it says whether it permits a name that stands before,
+-- an operand behind an operator, given how many names are bound: behind `in` it says whether it permits a name that is before,
 -- or what is bound for that
 abbrev pub behind_term : Infix → ℕ → Option Subject → Translation → Tree
 behind_term Member k None d = d.member (k + 1) (bound k)
 behind_term Member k (Some x) d = d.member k (subject_tree x)
 behind_term o k x d = d.term k
 
--- What stands before, of this width, with the next operand, the number that this one is and its term; where a name stands before
+-- What is before, of this width, with the next operand, the number that this one is and its term; where a name is before
 -- `in`, it is tested as it is.
 abbrev pub joined_term : Infix → Bool → Bool → ℕ → ℕ → Tree → Tree → Tree
 joined_term Member named words m amount a b = if named then b else binding t_alone (one a) b
@@ -62,7 +62,7 @@ folded c k x m a no_flat_links = a
 folded c k x m a (flat_link o e ls) =
     folded_term c k (front_width o m (word_width e)) (joined_term o (is_some x) (is_word e) m (amount_of e) a (behind_term o k x (translation c e))) ls
 
--- what stands before is that name
+-- what is before is that name
 abbrev pub IsSubject : Option Subject → Tree → Type 0
 IsSubject None a = Unit {0}
 IsSubject (Some x) a = a ≡ subject_tree x

@@ -20,7 +20,7 @@ abbrev pub front_length : (ℕ → List ℕ → Bool) → List ℕ → ℕ
 front_length p [] = 0
 front_length p (b ∷ bs) = if p b bs then suc (front_length p bs) else 0
 
--- Each byte of the front passes, with what stands behind it.
+-- Each byte of the front passes, with what is behind it.
 abbrev pub AllPass : (ℕ → List ℕ → Bool) → List ℕ → List ℕ → Type 0
 AllPass p [] rest = Unit {0}
 AllPass p (b ∷ bs) rest = IsTrue (p b (bs ++ rest)) × AllPass p bs rest

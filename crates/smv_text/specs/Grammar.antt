@@ -1,4 +1,4 @@
--- Which tokens spell which expression, by the levels of the grammar (NuSMV 2.6 User Manual, 2.2). Round brackets may stand at
+-- Which tokens spell which expression, by the levels of the grammar (NuSMV 2.6 User Manual, 2.2). Round brackets may appear at
 -- any level and leave no trace in the tree. The place of an expression is that of its first token.
 use Rattle.std.specs.Prelude.{◌≡◌, ℕ, ℤ, pos, ◌-ℤ◌, suc, true, false, Some, List, [], ◌∷◌, ◌++◌}
 use Rattle.text_core.specs.declared.place.Place.{Place}
@@ -59,7 +59,7 @@ mutual
     chains : {j : OperatorClass} {below : List Level} {t u : Tree} {op : Infix} {links : Links} {xs ys : List Token}
         → Spells below t xs → SpellsLinks j below (link op u links) ys
         → Spells (Chain j ∷ below) (chain (start xs) t (link op u links)) (xs ++ ys)
-    -- conditions with their values, and what stands behind the last colon, each of the levels below, or in brackets
+    -- conditions with their values, and what is behind the last colon, each of the levels below, or in brackets
     chooses : {below : List Level} {w v t : Tree} {bs : Branches} {xs : List Token}
         → SpellsBranches below (branch w v bs) t xs → Spells (Choice ∷ below) (choice (start xs) (branch w v bs) t) xs
     ranges : {below : List Level} {low high : ℤ} {xs ys : List Token}

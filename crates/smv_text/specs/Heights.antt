@@ -26,12 +26,12 @@ abbrev pub is_implied : List (Infix × ℕ) → Bool
 is_implied ((infixes.Implies, n) ∷ ls) = true
 is_implied _ = false
 
--- each operator joins what stands before it to the next operand
+-- each operator joins what is before it to the next operand
 abbrev pub folded : ℕ → List (Infix × ℕ) → ℕ
 folded n [] = n
 folded n (l ∷ ls) = folded (suc (max n l.1)) ls
 
--- each operator joins an operand to what stands behind it
+-- each operator joins an operand to what is behind it
 abbrev pub folded_right : ℕ → List (Infix × ℕ) → ℕ
 folded_right n [] = n
 folded_right n (l ∷ ls) = suc (max n (folded_right l.1 ls))
@@ -45,7 +45,7 @@ highest (n ∷ ns) = max n (highest ns)
 abbrev pub chain_height : ℕ → List (Infix × ℕ) → ℕ
 chain_height n ls = if is_joined ls then suc (max n (highest (map (λ l. l.1) ls))) else (if is_implied ls then folded_right n ls else folded n ls)
 
--- Branch number i, from 1, stands under i levels, and what stands behind the last one under as many as there are branches.
+-- Branch number i, from 1, stands under i levels, and what is behind the last one under as many as there are branches.
 abbrev pub branches_height : List (ℕ × ℕ) → ℕ → ℕ
 branches_height [] n = n
 branches_height (b ∷ bs) n = suc (max (max b.0 b.1) (branches_height bs n))

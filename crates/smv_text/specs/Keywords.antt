@@ -51,7 +51,7 @@ all_reserved =
     ∷ word.Mod ∷ word.Union ∷ word.In ∷ word.Xor ∷ word.Xnor ∷ word.Bool ∷ word.Word1 ∷ word.Toint ∷ word.Uwconst ∷ word.Extend ∷ word.Resize
     ∷ word.Count ∷ word.Max ∷ word.Min ∷ word.Abs ∷ []
 
--- a reserved word by its number, by which words are told apart
+-- a reserved word by its number, by which words are distinguished
 abbrev pub word_number : Reserved → ℕ
 word_number word.Module = 0
 word_number word.Var = 1

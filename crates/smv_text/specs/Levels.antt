@@ -103,7 +103,7 @@ class_of infixes.Divide = classes.Products
 class_of infixes.Mod = classes.Products
 class_of infixes.Concat = classes.Concatenations
 
--- a class by its number, by which classes are told apart
+-- a class by its number, by which classes are distinguished
 abbrev pub class_number : OperatorClass → ℕ
 class_number classes.Implications = 0
 class_number classes.Equivalences = 1

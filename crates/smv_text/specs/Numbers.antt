@@ -27,12 +27,12 @@ marked_word base width (mark ∷ digits) = option_and_then (λ w. read_word w ba
 abbrev pub parted_word : List ℕ → ℕ → Option BitVector
 parted_word bs base = marked_word base (take (front_length (λ b rest. not (b == 95)) bs) bs) (drop (front_length (λ b rest. not (b == 95)) bs) bs)
 
--- what stands behind the `0` and the `u` of a literal, with its base in front
+-- what is behind the `0` and the `u` of a literal, with its base in front
 abbrev pub based_word : List ℕ → Option BitVector
 based_word [] = None
 based_word (b ∷ bs) = option_and_then (parted_word bs) (base_of b)
 
--- what stands behind a `u`, if it comes first
+-- what is behind a `u`, if it comes first
 abbrev pub past_sign : List ℕ → List ℕ
 past_sign [] = []
 past_sign (b ∷ bs) = if b == 117 then bs else b ∷ bs

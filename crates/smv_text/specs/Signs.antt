@@ -48,7 +48,7 @@ all_signs =
 unfoldable pub signs : List (List ℕ × Sign)
 signs = map (λ s. (sign_bytes s, s)) all_signs
 
--- a sign by its number, by which signs are told apart
+-- a sign by its number, by which signs are distinguished
 abbrev pub sign_number : Sign → ℕ
 sign_number sign.Open = 0
 sign_number sign.Close = 1
@@ -82,8 +82,8 @@ sign_number sign.Question = 28
 sign_number sign.Implies = 29
 sign_number sign.Iff = 30
 
--- A sign may stand before this text. A division doesn't stand directly before a comment: `/--` is kept for the comments of
+-- A sign may appear before this text. A division doesn't stand directly before a comment: `/--` is kept for the comments of
 -- several lines that NuSMV has, which aren't read. This rule is our own.
-abbrev pub may_stand : Sign → List ℕ → Bool
-may_stand sign.Divide rest = not (heads 45 rest && heads 45 (drop 1 rest))
-may_stand s rest = true
+abbrev pub may_appear : Sign → List ℕ → Bool
+may_appear sign.Divide rest = not (heads 45 rest && heads 45 (drop 1 rest))
+may_appear s rest = true

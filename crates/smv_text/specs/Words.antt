@@ -7,7 +7,7 @@ use Rattle.smv_text.specs.declared.token.TokenKind.{TokenKind}
 use Rattle.smv_text.specs.declared.token.TokenKind.TheVariants as kind
 use Rattle.text_core.specs.Bytes.{is_digit}
 use Rattle.smv_text.specs.Bytes.{is_letter, is_blank, heads, AllPass, look_up}
-use Rattle.smv_text.specs.Signs.{sign_bytes, signs, may_stand}
+use Rattle.smv_text.specs.Signs.{sign_bytes, signs, may_appear}
 use Rattle.smv_text.specs.Keywords.{keywords}
 use Rattle.smv_text.specs.Numbers.{number_of, literal_of}
 
@@ -31,7 +31,7 @@ abbrev pub IsLexeme : List ℕ → List ℕ → Type 0
 IsLexeme [] rest = ⊥
 IsLexeme (b ∷ bs) rest =
     (IsTrue (is_letter b) × AllPass in_word bs rest)
-    ⊎ ((IsTrue (is_digit b) × AllPass in_run bs rest) ⊎ ((s : Sign) × (b ∷ bs ≡ sign_bytes s) × IsTrue (may_stand s rest)))
+    ⊎ ((IsTrue (is_digit b) × AllPass in_run bs rest) ⊎ ((s : Sign) × (b ∷ bs ≡ sign_bytes s) × IsTrue (may_appear s rest)))
 
 -- the kind of a word: reserved, of a part that isn't supported, or an identifier
 abbrev pub keyword_kind : List ℕ → Option (Option Reserved) → TokenKind

@@ -55,7 +55,7 @@ in_group Label kind.Input e = refl
 in_group Label kind.Define e = cc
 in_group Label kind.Actual e = cc
 
--- ---- how many variables of a part stand before the numbered item
+-- ---- how many variables of a part are before the numbered item
 
 abbrev pub before : Part → List PlainFlatItem → ℕ → ℕ
 before p items k = length (items_in (group_in p) (take k items))

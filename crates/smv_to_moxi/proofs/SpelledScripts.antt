@@ -8,7 +8,7 @@ use Rattle.smv_flatten.specs.FlatModel.{FlatModel, IsOfModel, flat_plain}
 use Rattle.moxi_scripts.specs.Invariant.{IsSpelled}
 use Rattle.moxi_scripts.specs.Script.{PlainScript}
 use Rattle.smv_script.specs.Script.{script_of}
-use Rattle.smv_script_laws.specs.WholeLaws.{ScriptsAreSpelled}
+use Rattle.smv_script_laws.specs.ValidLaws.{ScriptsAreSpelled}
 use Rattle.smv_script_terms.specs.FlatParts.{flat_in}
 use Rattle.smv_to_moxi.specs.Assembling.{script_form}
 use Rattle.smv_to_moxi.proofs.Scripts.{script_form_is}

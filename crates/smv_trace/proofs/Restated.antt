@@ -66,7 +66,7 @@ remaining true (g ∷ gs) = gs
 remaining true [] = []
 remaining false gs = gs
 
--- the last value of each item, where these values stand behind the heading
+-- the last value of each item, where these values are behind the heading
 abbrev pub restated : Heading → List PlainFlatItem → List (Option Value) → List Given → List (Option Value)
 restated h [] vs gs = vs
 restated h (m ∷ ms) [] gs = []

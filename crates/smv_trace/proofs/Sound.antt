@@ -122,14 +122,14 @@ value_fits symbols (word_type n) text v e = words_fit symbols n (literal_of text
 
 -- ---- what is stated fits
 
-abbrev can_stand : List (List ℕ) → ExprType → Option Value → Bool
-can_stand symbols t None = true
-can_stand symbols t (Some v) = can_be_stated symbols t v
+abbrev can_appear : List (List ℕ) → ExprType → Option Value → Bool
+can_appear symbols t None = true
+can_appear symbols t (Some v) = can_be_stated symbols t v
 
 abbrev AreFit : List (List ℕ) → List PlainFlatItem → List (Option Value) → Type 0
 AreFit symbols [] vs = Unit {0}
 AreFit symbols (m ∷ ms) [] = ⊥
-AreFit symbols (m ∷ ms) (v ∷ vs) = (can_stand symbols m.type v ≡ true) × AreFit symbols ms vs
+AreFit symbols (m ∷ ms) (v ∷ vs) = (can_appear symbols m.type v ≡ true) × AreFit symbols ms vs
 
 nothing_fits : (symbols : List (List ℕ)) (items : List PlainFlatItem) → AreFit symbols items (nothing_stated items)
 nothing_fits symbols [] = tt
@@ -148,7 +148,7 @@ named symbols h [] vs f l = refl
 named symbols h (m ∷ ms) [] f l = absurd f
 named symbols h (m ∷ ms) (v ∷ vs) f l = go (picks h m.kind) v f.0 l (named symbols h ms vs f.1)
   where
-    go : (b : Bool) (v : Option Value) → can_stand symbols m.type v ≡ true → ((b && is_none v) || lacks h ms vs) ≡ false
+    go : (b : Bool) (v : Option Value) → can_appear symbols m.type v ≡ true → ((b && is_none v) || lacks h ms vs) ≡ false
         → (lacks h ms vs ≡ false → names_each symbols (filter (λ m. picks h m.kind) ms) (values_of h ms vs) ≡ true)
         → names_each symbols (cond b (m ∷ filter (λ m. picks h m.kind) ms) (filter (λ m. picks h m.kind) ms)) (given_if b m.name v ++ values_of h ms vs) ≡ true
     go true (Some v) c l ih = rw ((bytes_eq-Decides m.name m.name).1 refl) (rw c (ih l))
@@ -165,10 +165,10 @@ pub record IsKept (d : Declarations) (r : Reading) : Type 0 where
   pub sizes : length r.labels ≡ length r.states - 1
 
 -- how many states there may be, by the last heading
-abbrev pub MayStand : Declarations → Option Heading → ℕ → Type 0
-MayStand d None n = n ≡ 0
-MayStand d (Some State) n = is_within d (n + 1) ≡ true
-MayStand d (Some Input) n = (1 ≤ n) × (is_within d n ≡ true)
+abbrev pub MayAppear : Declarations → Option Heading → ℕ → Type 0
+MayAppear d None n = n ≡ 0
+MayAppear d (Some State) n = is_within d (n + 1) ≡ true
+MayAppear d (Some Input) n = (1 ≤ n) × (is_within d n ≡ true)
 
 -- behind the lines of a heading
 abbrev pub MayEnd : Declarations → Option Heading → ℕ → Type 0
@@ -209,7 +209,7 @@ one_more d r w =
     let e : length (r.states ++ values_of State d.items r.stated ∷ []) ≡ length r.states + 1 = length-append r.states (values_of State d.items r.stated ∷ []) in
     (omega (arith, e), ap (is_within d) e ∙ w)
 
-ended_kept : (d : Declarations) (next : Heading) (h : Option Heading) (r q : Reading) → IsKept d r → MayStand d h (length r.states) → ended d next h r ≡ Ok q → IsKept d q × MayEnd d h (length q.states)
+ended_kept : (d : Declarations) (next : Heading) (h : Option Heading) (r q : Reading) → IsKept d r → MayAppear d h (length r.states) → ended d next h r ≡ Ok q → IsKept d q × MayEnd d h (length q.states)
 ended_kept d next None r q k w e = subst (λ (x : Reading). IsKept d x × MayEnd d None (length x.states)) (same_ok r q e) (k, w)
 ended_kept d next (Some State) r q k w e =
     let t = passed_by (lacks_state d r) (Ok (with_state d r)) 4 r.place q e in
@@ -221,9 +221,9 @@ ended_kept d Input (Some Input) r q k w e = subst (λ (x : Reading). IsKept d x 
 
 -- a reading that may go on
 abbrev pub IsSound : Declarations → Reading → Type 0
-IsSound d r = IsKept d r × MayStand d r.heading (length r.states)
+IsSound d r = IsKept d r × MayAppear d r.heading (length r.states)
 
-begun_sound : (d : Declarations) (next : Heading) (at : Place) (p : List ℕ × List ℕ) (r q : Reading) → IsKept d r → (is_allowed d next r ≡ true → MayStand d (Some next) (length r.states)) → begun d next at p r ≡ Ok q → IsSound d q
+begun_sound : (d : Declarations) (next : Heading) (at : Place) (p : List ℕ × List ℕ) (r q : Reading) → IsKept d r → (is_allowed d next r ≡ true → MayAppear d (Some next) (length r.states)) → begun d next at p r ≡ Ok q → IsSound d q
 begun_sound d next at p r q k w e =
     let t = taken (is_numbered r p) (cond (is_allowed d next r) (Ok (record { heading = Some next; place = at; first = p.0; stated = r.stated; states = r.states; labels = r.labels })) (refused 5 at)) 1 at q e in
     let u = taken (is_allowed d next r) (Ok (record { heading = Some next; place = at; first = p.0; stated = r.stated; states = r.states; labels = r.labels })) 5 at q t.1 in
@@ -299,7 +299,7 @@ finished_good : (d : Declarations) (end : Place) (r : Reading) (run : Run) → I
 unfolding finished
 finished_good d end r run s e = go r.heading s.1 e
   where
-    go : (o : Option Heading) → MayStand d o (length r.states) → finished_at d end o r ≡ Ok run → IsGood d run
+    go : (o : Option Heading) → MayAppear d o (length r.states) → finished_at d end o r ≡ Ok run → IsGood d run
     go None w e = absurd (none_refused 1 end run e)
     go (Some h) w e =
         let t = go_on_ok (ended d Input (Some h) r) run_of run e in

@@ -49,7 +49,7 @@ abbrev pub behind_mark : List ℕ → List ℕ → Option (List ℕ × List ℕ)
 behind_mark front [] = None
 behind_mark front (b ∷ bs) = Some (front, bs)
 
--- what stands before the first such byte, and what stands behind it, where there is one
+-- what is before the first such byte, and what is behind it, where there is one
 abbrev pub halves : ℕ → List ℕ → Option (List ℕ × List ℕ)
 halves mark bs = behind_mark (take (front_length (is_other mark) bs) bs) (drop (front_length (is_other mark) bs) bs)
 
@@ -90,7 +90,7 @@ numbers_of_rest word p = option_and_then (numbers_behind word p.0) (halves 32 p.
 abbrev pub heading_numbers : List ℕ → List ℕ → Option (List ℕ × List ℕ)
 heading_numbers word line = option_and_then (numbers_of_rest word) (halves 32 line)
 
--- what stands behind `=`, where there is no blank in it
+-- what is behind `=`, where there is no blank in it
 abbrev pub value_behind : List ℕ → List ℕ × List ℕ → Option (List ℕ × List ℕ)
 value_behind name p = if bytes_eq p.0 (codes "=") && is_none (halves 32 p.1) then Some (name, p.1) else None
 

@@ -8,7 +8,7 @@ use Rattle.smv_intervals.specs.View.{seen}
 use Rattle.smv_types.specs.declared.names.Named.{Named}
 use Rattle.smv_types.specs.declared.positions.Position.{Position}
 use Rattle.smv_types.specs.declared.positions.Position.TheVariants.{Now, Step, Define, Actual, AssignNow, AssignFirst, AssignFollowing}
-use Rattle.smv_types.specs.declared.positions.Standing.{Standing}
+use Rattle.smv_types.specs.declared.positions.Permissions.{Permissions}
 
 abbrev pub named_seen : Named → checks.Named
 named_seen n = record { type = option_map seen n.ty; is_instance = n.is_instance; reaches_input = n.reaches_input }
@@ -23,5 +23,5 @@ position_seen AssignNow = in_assignment Always
 position_seen AssignFirst = in_assignment First
 position_seen AssignFollowing = in_assignment Following
 
-abbrev pub standing_seen : Standing → checks.Position
-standing_seen s = record { inputs = s.inputs; nexts = s.nexts; sets = s.sets }
+abbrev pub permissions_seen : Permissions → checks.Position
+permissions_seen s = record { inputs = s.inputs; nexts = s.nexts; sets = s.sets }

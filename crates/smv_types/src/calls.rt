@@ -7,7 +7,7 @@ ghost use Rattle.smv_meaning.specs.Types.{integer_type, numbers_of};
 ghost use Rattle.smv_meaning.specs.Checks.{all_types};
 ghost use Rattle.smv_meaning.specs.Operators.{is_width};
 ghost use Rattle.smv_intervals.specs.View.{seen};
-ghost use Rattle.smv_intervals.specs.Limits.{Kept};
+ghost use Rattle.smv_intervals.specs.Limits.{FitsLimit};
 ghost use Rattle.smv_types.specs.Outcome.{Answers, Ends, refusal_at};
 ghost use Rattle.smv_types.specs.Steps.{call_step};
 
@@ -62,7 +62,7 @@ fn bit_of_truth(place: Place, types: &[Ty]) -> Result<Option<Ty>, Refusal>
 
 // The interval of the values of a word of this width.
 fn word_numbers(width: u32) -> Option<Ty>
-    ensures { Kept result (integer_type (pos 0) (pos (2 ^ width - 1))) }
+    ensures { FitsLimit result (integer_type (pos 0) (pos (2 ^ width - 1))) }
 {
     if width <= WIDEST_INTEGER {
         Some(Ty::Integer(0, ((1u64 << width) - 1) as i64))

@@ -6,13 +6,13 @@ ghost use Rattle.smv_meaning.specs.Types.{infix_fits, is_shift_amount, divides, 
 ghost use Rattle.smv_meaning.specs.Checks.{across, behind, are_unions};
 ghost use Rattle.smv_meaning.specs.Expressions.{is_implies, are_implies, is_from_right};
 ghost use Rattle.smv_intervals.specs.View.{seen};
-ghost use Rattle.smv_types.specs.View.{standing_seen};
+ghost use Rattle.smv_types.specs.View.{permissions_seen};
 ghost use Rattle.smv_types.specs.Outcome.{Answers};
 ghost use Rattle.smv_types.specs.Steps.{front_step, is_concat};
 
 use crate::arguments::{divisor_of, is_divisor, number_of};
 use crate::ends::{check, refusal};
-use crate::positions::Standing;
+use crate::positions::Permissions;
 use smv_intervals::{Ty, infix_type};
 use smv_text::{Expr, Infix, Link};
 use text_core::kinds::smv;
@@ -95,8 +95,14 @@ fn is_concat(op: Infix) -> bool
 }
 
 // Concatenation of words.
-fn joined(at: Standing, place: Place, t: Ty, u: Ty, operand: &Expr) -> Result<Option<Ty>, Refusal>
-    ensures { Answers result (front_step Infix.Concat (standing_seen at) place (Some (seen t)) (Some (seen u)) (plain operand.now)) }
+fn joined(
+    at: Permissions,
+    place: Place,
+    t: Ty,
+    u: Ty,
+    operand: &Expr,
+) -> Result<Option<Ty>, Refusal>
+    ensures { Answers result (front_step Infix.Concat (permissions_seen at) place (Some (seen t)) (Some (seen u)) (plain operand.now)) }
 {
     check(smv::TYPE_CLASH, place, t.is_word() && u.is_word())?;
     let width = t.width() as u64 + u.width() as u64;
@@ -106,14 +112,14 @@ fn joined(at: Standing, place: Place, t: Ty, u: Ty, operand: &Expr) -> Result<Op
 
 fn combined(
     op: Infix,
-    at: Standing,
+    at: Permissions,
     place: Place,
     t: Ty,
     u: Ty,
     operand: &Expr,
 ) -> Result<Option<Ty>, Refusal>
     requires { is_concat op ≡ false }
-    ensures { Answers result (front_step op (standing_seen at) place (Some (seen t)) (Some (seen u)) (plain operand.now)) }
+    ensures { Answers result (front_step op (permissions_seen at) place (Some (seen t)) (Some (seen u)) (plain operand.now)) }
 {
     check(smv::TYPE_CLASH, place, infix_fits(op, t, u))?;
     match infix_type(op, t, u, divisor_of(operand)) {
@@ -128,8 +134,8 @@ fn combined(
 }
 
 // Where an operand has no type, only the position of a set and the form of a divisor are checked.
-fn untyped(op: Infix, at: Standing, place: Place, operand: &Expr) -> Result<Option<Ty>, Refusal>
-    ensures { Answers result (front_step op (standing_seen at) place None None (plain operand.now)) }
+fn untyped(op: Infix, at: Permissions, place: Place, operand: &Expr) -> Result<Option<Ty>, Refusal>
+    ensures { Answers result (front_step op (permissions_seen at) place None None (plain operand.now)) }
 {
     check(smv::SET_HERE, place, !is_union(op) || at.sets)?;
     check(smv::BAD_DIVISOR, place, divides(op, operand))?;
@@ -142,13 +148,13 @@ fn untyped(op: Infix, at: Standing, place: Place, operand: &Expr) -> Result<Opti
 /// node's own first failing check.
 pub fn check_front(
     op: Infix,
-    at: Standing,
+    at: Permissions,
     place: Place,
     left: Option<Ty>,
     right: Option<Ty>,
     operand: &Expr,
 ) -> Result<Option<Ty>, Refusal>
-    ensures { Answers result (front_step op (standing_seen at) place (option_map seen left) (option_map seen right) (plain operand.now)) }
+    ensures { Answers result (front_step op (permissions_seen at) place (option_map seen left) (option_map seen right) (plain operand.now)) }
 {
     match left {
         None => untyped(op, at, place, operand),
@@ -210,8 +216,8 @@ pub fn are_unions(links: &[Link]) -> bool
 /// Returns the position of a chain's first operand.
 ///
 /// In a chain of `union` it may be a set where the whole chain may be one.
-pub fn first_standing(links: &[Link], at: Standing) -> Standing
-    ensures { standing_seen result ≡ across (links_of (map plain_link links.now)) (standing_seen at) }
+pub fn first_standing(links: &[Link], at: Permissions) -> Permissions
+    ensures { permissions_seen result ≡ across (links_of (map plain_link links.now)) (permissions_seen at) }
 {
     if are_unions(links) {
         at
@@ -221,8 +227,8 @@ pub fn first_standing(links: &[Link], at: Standing) -> Standing
 }
 
 /// Returns the position of the operand after an operator. After `in`, a set is allowed.
-pub fn operand_standing(op: Infix, at: Standing) -> Standing
-    ensures { standing_seen result ≡ behind op (standing_seen at) }
+pub fn operand_standing(op: Infix, at: Permissions) -> Permissions
+    ensures { permissions_seen result ≡ behind op (permissions_seen at) }
 {
     match op {
         Infix::Member => at.with_sets(),

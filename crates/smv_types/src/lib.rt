@@ -13,5 +13,5 @@ mod typing;
 
 pub use ends::CheckEnd;
 pub use names::{Named, Scope};
-pub use positions::{Position, Standing};
+pub use positions::{Permissions, Position};
 pub use typing::type_of;

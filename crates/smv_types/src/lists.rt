@@ -5,13 +5,13 @@ ghost use Rattle.text_core.specs.declared.end.End.TheVariants as OfEnd;
 ghost use Rattle.smv_meaning.specs.Types.{is_truth_type, type_same, logical_fits, are_same, hull_with, hull_of, implies_fits};
 ghost use Rattle.smv_meaning.specs.Checks.{all_types};
 ghost use Rattle.smv_intervals.specs.View.{seen};
-ghost use Rattle.smv_types.specs.View.{standing_seen};
+ghost use Rattle.smv_types.specs.View.{permissions_seen};
 ghost use Rattle.smv_types.specs.Outcome.{Answers, Ends};
 ghost use Rattle.smv_types.specs.Steps.{implies_step, branches_step, set_step};
 
 use crate::chains::logical_fits;
 use crate::ends::{CheckEnd, answered, check, refusal};
-use crate::positions::Standing;
+use crate::positions::Permissions;
 use smv_intervals::{Ty, hull};
 use std::alloc::Global;
 use text_core::kinds::smv;
@@ -134,8 +134,8 @@ fn branching(
     }
 }
 
-fn gathering(place: Place, at: Standing, types: &Option<Vec<Ty>>) -> Result<Option<Ty>, Refusal>
-    ensures { Answers result (set_step place (standing_seen at) (option_map (λ v. map seen v.items) types.now)) }
+fn gathering(place: Place, at: Permissions, types: &Option<Vec<Ty>>) -> Result<Option<Ty>, Refusal>
+    ensures { Answers result (set_step place (permissions_seen at) (option_map (λ v. map seen v.items) types.now)) }
 {
     match types {
         None => {
@@ -193,10 +193,10 @@ pub fn check_branches(
 pub fn check_set(
     alloc: Global,
     place: Place,
-    at: Standing,
+    at: Permissions,
     types: &[Option<Ty>],
 ) -> Result<Option<Ty>, CheckEnd>
-    ensures { Ends result (set_step place (standing_seen at) (all_types (map (option_map seen) types.now))) }
+    ensures { Ends result (set_step place (permissions_seen at) (all_types (map (option_map seen) types.now))) }
 {
     let types = all_types(alloc, types)?;
     answered(gathering(place, at, &types))

@@ -2,14 +2,14 @@
 ghost use Rattle.std.specs.Prelude.{◌≡◌, MatchResult, Some, option_map, pos};
 ghost use Rattle.smv_meaning.specs.Types.{prefix_fits, prefix_type};
 ghost use Rattle.smv_intervals.specs.View.{seen};
-ghost use Rattle.smv_types.specs.View.{named_seen, standing_seen};
-ghost use Rattle.smv_intervals.specs.Limits.{Kept};
+ghost use Rattle.smv_types.specs.View.{named_seen, permissions_seen};
+ghost use Rattle.smv_intervals.specs.Limits.{FitsLimit};
 ghost use Rattle.smv_types.specs.Outcome.{Answers};
 ghost use Rattle.smv_types.specs.Steps.{number_step, name_step, prefix_step, select_step, next_step, range_step};
 
 use crate::ends::{check, refusal};
 use crate::names::Named;
-use crate::positions::Standing;
+use crate::positions::Permissions;
 use smv_intervals::{
     Ty, interval_within_limit, negation_type, ordered_interval, type_within_limit,
 };
@@ -32,8 +32,8 @@ pub fn number(place: Place, n: u64) -> Result<Option<Ty>, Refusal>
 /// Returns the type of a name, or None where it has none, given the name's properties.
 ///
 /// `Err` is the refusal of its first failing check.
-pub fn name(place: Place, at: Standing, named: Named) -> Result<Option<Ty>, Refusal>
-    ensures { Answers result (name_step place (standing_seen at) (named_seen named)) }
+pub fn name(place: Place, at: Permissions, named: Named) -> Result<Option<Ty>, Refusal>
+    ensures { Answers result (name_step place (permissions_seen at) (named_seen named)) }
 {
     check(smv::TYPE_CLASH, place, !named.is_instance)?;
     check(smv::INPUT_HERE, place, at.inputs || !named.reaches_input)?;
@@ -51,7 +51,7 @@ fn sign_fits(sign: Prefix, t: Ty) -> bool
 }
 
 fn signed_type(sign: Prefix, count: u32, t: Ty) -> Option<Ty>
-    ensures { Kept result (prefix_type sign count (seen t)) }
+    ensures { FitsLimit result (prefix_type sign count (seen t)) }
 {
     match sign {
         Prefix::Not => type_within_limit(t),
@@ -117,8 +117,8 @@ pub fn check_selection(
 /// Returns the type of `next`, given the type of its operand.
 ///
 /// `Err` is the refusal where `next` is not allowed here.
-pub fn check_next(place: Place, at: Standing, operand: Option<Ty>) -> Result<Option<Ty>, Refusal>
-    ensures { Answers result (next_step place (standing_seen at) (option_map seen operand)) }
+pub fn check_next(place: Place, at: Permissions, operand: Option<Ty>) -> Result<Option<Ty>, Refusal>
+    ensures { Answers result (next_step place (permissions_seen at) (option_map seen operand)) }
 {
     check(smv::NEXT_HERE, place, at.nexts)?;
     Ok(operand)
@@ -127,8 +127,13 @@ pub fn check_next(place: Place, at: Standing, operand: Option<Ty>) -> Result<Opt
 /// Returns the type of a range in a set.
 ///
 /// `Err` is the refusal of its first failing check.
-pub fn check_range(place: Place, at: Standing, low: i64, high: i64) -> Result<Option<Ty>, Refusal>
-    ensures { Answers result (range_step place (standing_seen at) low high) }
+pub fn check_range(
+    place: Place,
+    at: Permissions,
+    low: i64,
+    high: i64,
+) -> Result<Option<Ty>, Refusal>
+    ensures { Answers result (range_step place (permissions_seen at) low high) }
 {
     match interval_within_limit(low, high) {
         None => Err(refusal(smv::INT_TOO_WIDE, place)),

@@ -1,7 +1,7 @@
 // The positions of expressions.
 ghost use Rattle.std.specs.Prelude.{◌≡◌};
 ghost use Rattle.smv_meaning.specs.Checks.{single, with_sets, under_next};
-ghost use Rattle.smv_types.specs.View.{position_seen, standing_seen};
+ghost use Rattle.smv_types.specs.View.{position_seen, permissions_seen};
 
 /// The position of a whole expression (NuSMV 2.6 User Manual, 2.3).
 ///
@@ -26,7 +26,7 @@ pub enum Position {
 
 /// What is allowed at a position within an expression.
 #[derive(Clone, Copy, PartialEq, Eq)]
-pub struct Standing {
+pub struct Permissions {
     /// Whether inputs are allowed.
     pub inputs: bool,
     /// Whether `next` is allowed.
@@ -35,10 +35,10 @@ pub struct Standing {
     pub sets: bool,
 }
 
-impl Standing {
+impl Permissions {
     /// Returns what is allowed at the top of a whole expression.
-    pub fn of(position: Position) -> Standing
-        ensures { standing_seen result ≡ position_seen position }
+    pub fn of(position: Position) -> Permissions
+        ensures { permissions_seen result ≡ position_seen position }
     {
         let (inputs, nexts, sets) = match position {
             Position::Now => (false, false, false),
@@ -47,7 +47,7 @@ impl Standing {
             Position::AssignNow | Position::AssignFirst => (false, false, true),
             Position::AssignFollowing => (true, true, true),
         };
-        Standing {
+        Permissions {
             inputs,
             nexts,
             sets,
@@ -55,27 +55,27 @@ impl Standing {
     }
 
     /// Returns the same permissions without sets.
-    pub fn without_sets(self) -> Standing
-        ensures { standing_seen result ≡ single (standing_seen self) }
+    pub fn without_sets(self) -> Permissions
+        ensures { permissions_seen result ≡ single (permissions_seen self) }
     {
-        Standing {
+        Permissions {
             sets: false,
             ..self
         }
     }
 
     /// Returns the same permissions with sets.
-    pub fn with_sets(self) -> Standing
-        ensures { standing_seen result ≡ with_sets (standing_seen self) }
+    pub fn with_sets(self) -> Permissions
+        ensures { permissions_seen result ≡ with_sets (permissions_seen self) }
     {
-        Standing { sets: true, ..self }
+        Permissions { sets: true, ..self }
     }
 
     /// Returns what is allowed under `next`: no input, no `next` and no set.
-    pub fn under_next() -> Standing
-        ensures { standing_seen result ≡ under_next }
+    pub fn under_next() -> Permissions
+        ensures { permissions_seen result ≡ under_next }
     {
-        Standing {
+        Permissions {
             inputs: false,
             nexts: false,
             sets: false,

@@ -6,7 +6,7 @@ ghost use Rattle.smv_text.specs.View.{plain, plain_link, plain_branch};
 ghost use Rattle.smv_meaning.specs.Expressions.{paths_of};
 ghost use Rattle.smv_meaning.specs.Checks.{typing, single, linked, tree_checks, tree_types, link_checks, link_types, branch_checks, condition_types, value_types, first_failing};
 ghost use Rattle.smv_intervals.specs.View.{seen};
-ghost use Rattle.smv_types.specs.View.{standing_seen, position_seen};
+ghost use Rattle.smv_types.specs.View.{permissions_seen, position_seen};
 ghost use Rattle.smv_types.specs.Outcome.{Ends, IsBad, is_known, links_known, branches_known, trees_known};
 ghost use Rattle.smv_types.specs.Steps.{passed};
 ghost use Rattle.smv_types.specs.Operands.{EndsChain, implications_typing, EndsChoice};
@@ -17,7 +17,7 @@ use crate::ends::{CheckEnd, answered};
 use crate::lists::{BranchTypes, check_branches, check_implication, check_set};
 use crate::names::Scope;
 use crate::nodes::{check_next, check_range, check_selection, check_sign, name, number};
-use crate::positions::{Position, Standing};
+use crate::positions::{Permissions, Position};
 use smv_intervals::Ty;
 use smv_text::{Branch, Expr, Function, Link, Prefix, Shape};
 use std::alloc::Global;
@@ -40,7 +40,7 @@ pub fn type_of<C: Scope>(
     ensures typed { IfOk result (λ o. option_map seen o ≡ (typing (C.names scope.now) (position_seen position) (plain expr.now)).type) }
     ensures refused { IfErr result (λ e. IsBad e (first_failing (typing (C.names scope.now) (position_seen position) (plain expr.now)).checks)) }
 {
-    typed(alloc, scope, expr, Standing::of(position))
+    typed(alloc, scope, expr, Permissions::of(position))
 }
 
 #[cycle(typing)]
@@ -48,10 +48,10 @@ fn typed<C: Scope>(
     alloc: Global,
     scope: &C,
     expr: &Expr,
-    at: Standing,
+    at: Permissions,
 ) -> Result<Option<Ty>, CheckEnd>
     requires { IsTrue (is_known (C.knows scope.now) (plain expr.now)) }
-    ensures { Ends result (typing (C.names scope.now) (standing_seen at) (plain expr.now)) }
+    ensures { Ends result (typing (C.names scope.now) (permissions_seen at) (plain expr.now)) }
 {
     let place = expr.place;
     match &expr.shape {
@@ -92,10 +92,10 @@ fn prefix_typed<C: Scope>(
     sign: Prefix,
     count: u32,
     operand: &Expr,
-    at: Standing,
+    at: Permissions,
 ) -> Result<Option<Ty>, CheckEnd>
     requires { IsTrue (is_known (C.knows scope.now) (plain operand.now)) }
-    ensures { Ends result (typing (C.names scope.now) (standing_seen at) (prefix place sign count (plain operand.now))) }
+    ensures { Ends result (typing (C.names scope.now) (permissions_seen at) (prefix place sign count (plain operand.now))) }
 {
     let t = typed(alloc, scope, operand, at.without_sets())?;
     answered(check_sign(place, sign, count, t))
@@ -109,10 +109,10 @@ fn select_typed<C: Scope>(
     operand: &Expr,
     high: u64,
     low: u64,
-    at: Standing,
+    at: Permissions,
 ) -> Result<Option<Ty>, CheckEnd>
     requires { IsTrue (is_known (C.knows scope.now) (plain operand.now)) }
-    ensures { Ends result (typing (C.names scope.now) (standing_seen at) (select place (plain operand.now) high low)) }
+    ensures { Ends result (typing (C.names scope.now) (permissions_seen at) (select place (plain operand.now) high low)) }
 {
     let t = typed(alloc, scope, operand, at.without_sets())?;
     answered(check_selection(place, t, high, low))
@@ -124,12 +124,12 @@ fn next_typed<C: Scope>(
     scope: &C,
     place: Place,
     operand: &Expr,
-    at: Standing,
+    at: Permissions,
 ) -> Result<Option<Ty>, CheckEnd>
     requires { IsTrue (is_known (C.knows scope.now) (plain operand.now)) }
-    ensures { Ends result (typing (C.names scope.now) (standing_seen at) (next place (plain operand.now))) }
+    ensures { Ends result (typing (C.names scope.now) (permissions_seen at) (next place (plain operand.now))) }
 {
-    let t = typed(alloc, scope, operand, Standing::under_next())?;
+    let t = typed(alloc, scope, operand, Permissions::under_next())?;
     answered(check_next(place, at, t))
 }
 
@@ -141,10 +141,10 @@ fn chain_typed<C: Scope>(
     place: Place,
     first: Option<Ty>,
     links: &[Link],
-    at: Standing,
+    at: Permissions,
 ) -> Result<Option<Ty>, CheckEnd>
     requires { IsTrue (links_known (C.knows scope.now) (links_of (map plain_link links.now))) }
-    ensures { EndsChain (C.names scope.now) (standing_seen at) place (option_map seen first) (links_of (map plain_link links.now)) result }
+    ensures { EndsChain (C.names scope.now) (permissions_seen at) place (option_map seen first) (links_of (map plain_link links.now)) result }
 {
     if is_from_right(links) {
         implications_typed(alloc, scope, place, first, links, at.without_sets())
@@ -161,10 +161,10 @@ fn implications_typed<C: Scope>(
     place: Place,
     first: Option<Ty>,
     links: &[Link],
-    at: Standing,
+    at: Permissions,
 ) -> Result<Option<Ty>, CheckEnd>
     requires { IsTrue (links_known (C.knows scope.now) (links_of (map plain_link links.now))) }
-    ensures { Ends result (implications_typing (C.names scope.now) (standing_seen at) place (option_map seen first) (links_of (map plain_link links.now))) }
+    ensures { Ends result (implications_typing (C.names scope.now) (permissions_seen at) place (option_map seen first) (links_of (map plain_link links.now))) }
 {
     let types = operand_types(alloc, scope, first, links, at)?;
     check_implication(alloc, place, &types)
@@ -178,10 +178,10 @@ fn fronts_typed<C: Scope>(
     place: Place,
     first: Option<Ty>,
     links: &[Link],
-    at: Standing,
+    at: Permissions,
 ) -> Result<Option<Ty>, CheckEnd>
     requires { IsTrue (links_known (C.knows scope.now) (links_of (map plain_link links.now))) }
-    ensures { Ends result (linked (C.names scope.now) (standing_seen at) place (passed (option_map seen first)) (links_of (map plain_link links.now))) }
+    ensures { Ends result (linked (C.names scope.now) (permissions_seen at) place (passed (option_map seen first)) (links_of (map plain_link links.now))) }
 {
     let mut whole = first;
     for link in links {
@@ -198,12 +198,12 @@ fn operand_types<C: Scope>(
     scope: &C,
     first: Option<Ty>,
     links: &[Link],
-    at: Standing,
+    at: Permissions,
 ) -> Result<Vec<Option<Ty>>, CheckEnd>
     requires { IsTrue (links_known (C.knows scope.now) (links_of (map plain_link links.now))) }
-    ensures passes { IfOk result (λ v. first_failing (link_checks (C.names scope.now) (standing_seen at) (links_of (map plain_link links.now))) ≡ None) }
-    ensures types { IfOk result (λ v. map (option_map seen) v.items ≡ option_map seen first ∷ link_types (C.names scope.now) (standing_seen at) (links_of (map plain_link links.now))) }
-    ensures refused { IfErr result (λ e. IsBad e (first_failing (link_checks (C.names scope.now) (standing_seen at) (links_of (map plain_link links.now))))) }
+    ensures passes { IfOk result (λ v. first_failing (link_checks (C.names scope.now) (permissions_seen at) (links_of (map plain_link links.now))) ≡ None) }
+    ensures types { IfOk result (λ v. map (option_map seen) v.items ≡ option_map seen first ∷ link_types (C.names scope.now) (permissions_seen at) (links_of (map plain_link links.now))) }
+    ensures refused { IfErr result (λ e. IsBad e (first_failing (link_checks (C.names scope.now) (permissions_seen at) (links_of (map plain_link links.now))))) }
 {
     let mut types = Vec::new(alloc);
     types.push(first)?;
@@ -221,10 +221,10 @@ fn call_typed<C: Scope>(
     place: Place,
     function: Function,
     arguments: &[Expr],
-    at: Standing,
+    at: Permissions,
 ) -> Result<Option<Ty>, CheckEnd>
     requires { IsTrue (trees_known (C.knows scope.now) (trees_of (map plain arguments.now))) }
-    ensures { Ends result (typing (C.names scope.now) (standing_seen at) (call place function (trees_of (map plain arguments.now)))) }
+    ensures { Ends result (typing (C.names scope.now) (permissions_seen at) (call place function (trees_of (map plain arguments.now)))) }
 {
     let types = part_types(alloc, scope, arguments, at.without_sets())?;
     check_call(alloc, place, function, &types, arguments)
@@ -236,10 +236,10 @@ fn set_typed<C: Scope>(
     scope: &C,
     place: Place,
     elements: &[Expr],
-    at: Standing,
+    at: Permissions,
 ) -> Result<Option<Ty>, CheckEnd>
     requires { IsTrue (trees_known (C.knows scope.now) (trees_of (map plain elements.now))) }
-    ensures { Ends result (typing (C.names scope.now) (standing_seen at) (set place (trees_of (map plain elements.now)))) }
+    ensures { Ends result (typing (C.names scope.now) (permissions_seen at) (set place (trees_of (map plain elements.now)))) }
 {
     let types = part_types(alloc, scope, elements, at)?;
     check_set(alloc, place, at, &types)
@@ -251,12 +251,12 @@ fn part_types<C: Scope>(
     alloc: Global,
     scope: &C,
     parts: &[Expr],
-    at: Standing,
+    at: Permissions,
 ) -> Result<Vec<Option<Ty>>, CheckEnd>
     requires { IsTrue (trees_known (C.knows scope.now) (trees_of (map plain parts.now))) }
-    ensures passes { IfOk result (λ v. first_failing (tree_checks (C.names scope.now) (standing_seen at) (trees_of (map plain parts.now))) ≡ None) }
-    ensures types { IfOk result (λ v. map (option_map seen) v.items ≡ tree_types (C.names scope.now) (standing_seen at) (trees_of (map plain parts.now))) }
-    ensures refused { IfErr result (λ e. IsBad e (first_failing (tree_checks (C.names scope.now) (standing_seen at) (trees_of (map plain parts.now))))) }
+    ensures passes { IfOk result (λ v. first_failing (tree_checks (C.names scope.now) (permissions_seen at) (trees_of (map plain parts.now))) ≡ None) }
+    ensures types { IfOk result (λ v. map (option_map seen) v.items ≡ tree_types (C.names scope.now) (permissions_seen at) (trees_of (map plain parts.now))) }
+    ensures refused { IfErr result (λ e. IsBad e (first_failing (tree_checks (C.names scope.now) (permissions_seen at) (trees_of (map plain parts.now))))) }
 {
     let mut types = Vec::new(alloc);
     for part in parts {
@@ -274,10 +274,10 @@ fn choice_typed<C: Scope>(
     place: Place,
     mut types: BranchTypes,
     last: &Expr,
-    at: Standing,
+    at: Permissions,
 ) -> Result<Option<Ty>, CheckEnd>
     requires { IsTrue (is_known (C.knows scope.now) (plain last.now)) }
-    ensures { EndsChoice (C.names scope.now) (standing_seen at) place (map (option_map seen) types.conditions.items) (map (option_map seen) types.values.items) (plain last.now) result }
+    ensures { EndsChoice (C.names scope.now) (permissions_seen at) place (map (option_map seen) types.conditions.items) (map (option_map seen) types.values.items) (plain last.now) result }
 {
     let t = typed(alloc, scope, last, at)?;
     types.values.push(t)?;
@@ -290,10 +290,10 @@ fn case_typed<C: Scope>(
     scope: &C,
     place: Place,
     branches: &[Branch],
-    at: Standing,
+    at: Permissions,
 ) -> Result<Option<Ty>, CheckEnd>
     requires { IsTrue (branches_known (C.knows scope.now) (branches_of (map plain_branch branches.now))) }
-    ensures { Ends result (typing (C.names scope.now) (standing_seen at) (cases place (branches_of (map plain_branch branches.now)))) }
+    ensures { Ends result (typing (C.names scope.now) (permissions_seen at) (cases place (branches_of (map plain_branch branches.now)))) }
 {
     let types = branch_types(alloc, scope, branches, at)?;
     check_branches(alloc, place, &types)
@@ -305,13 +305,13 @@ fn branch_types<C: Scope>(
     alloc: Global,
     scope: &C,
     branches: &[Branch],
-    at: Standing,
+    at: Permissions,
 ) -> Result<BranchTypes, CheckEnd>
     requires { IsTrue (branches_known (C.knows scope.now) (branches_of (map plain_branch branches.now))) }
-    ensures passes { IfOk result (λ v. first_failing (branch_checks (C.names scope.now) (standing_seen at) (branches_of (map plain_branch branches.now))) ≡ None) }
-    ensures conditions { IfOk result (λ v. map (option_map seen) v.conditions.items ≡ condition_types (C.names scope.now) (single (standing_seen at)) (branches_of (map plain_branch branches.now))) }
-    ensures values { IfOk result (λ v. map (option_map seen) v.values.items ≡ value_types (C.names scope.now) (standing_seen at) (branches_of (map plain_branch branches.now)) []) }
-    ensures refused { IfErr result (λ e. IsBad e (first_failing (branch_checks (C.names scope.now) (standing_seen at) (branches_of (map plain_branch branches.now))))) }
+    ensures passes { IfOk result (λ v. first_failing (branch_checks (C.names scope.now) (permissions_seen at) (branches_of (map plain_branch branches.now))) ≡ None) }
+    ensures conditions { IfOk result (λ v. map (option_map seen) v.conditions.items ≡ condition_types (C.names scope.now) (single (permissions_seen at)) (branches_of (map plain_branch branches.now))) }
+    ensures values { IfOk result (λ v. map (option_map seen) v.values.items ≡ value_types (C.names scope.now) (permissions_seen at) (branches_of (map plain_branch branches.now)) []) }
+    ensures refused { IfErr result (λ e. IsBad e (first_failing (branch_checks (C.names scope.now) (permissions_seen at) (branches_of (map plain_branch branches.now))))) }
 {
     let mut conditions = Vec::new(alloc);
     let mut values = Vec::new(alloc);

@@ -316,7 +316,7 @@ only_other truth_type h = refl
 only_other symbol_type h = refl
 only_other (word_type n) h = refl
 
--- what stands before an operator and is no integer makes no integer
+-- what is before an operator and is no integer makes no integer
 hull_other : (t u : ExprType) → is_integer_type t ≡ false → is_integer_type (hull t u) ≡ false
 hull_other (integer_type low high) u h = absurd_bool (sym h)
 hull_other truth_type u h = refl
@@ -357,7 +357,7 @@ abbrev is_member : Infix → Bool
 is_member Member = true
 is_member op = false
 
--- nothing stands before the operator that is an integer
+-- nothing is before the operator that is an integer
 flat_silent : (op : Infix) (g u : Option ExprType) (d : Option ℤ) → only g ≡ None → only (front_by op g u d) ≡ None
 flat_silent op None u d h = refl
 flat_silent op (Some t) None d h = refl

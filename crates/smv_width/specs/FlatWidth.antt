@@ -126,7 +126,7 @@ abbrev mutual
   tree_width (flat_set t es) = max (node_width t) (trees_width es)
   tree_width (flat_range t low high) = max (node_width t) (interval_width low high)
 
-  -- the operands and the fronts that end with them, given the type of what stands before
+  -- the operands and the fronts that end with them, given the type of what is before
   pub links_width : Option ExprType → FlatLinks → ℕ
   links_width t no_flat_links = 0
   links_width t (flat_link op e ls) =

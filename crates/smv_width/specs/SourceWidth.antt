@@ -47,7 +47,7 @@ abbrev mutual
   implied_width names at no_links = 0
   implied_width names at (link op e ls) = max (expression_width names at e) (implied_width names at ls)
 
-  -- the operands and the fronts that end with them, given what stands before
+  -- the operands and the fronts that end with them, given what is before
   pub fronts_width : (Path → Named) → Position → Place → Typing → Links → ℕ
   fronts_width names at p a no_links = 0
   fronts_width names at p a (link op e ls) =

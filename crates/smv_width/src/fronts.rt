@@ -3,7 +3,7 @@
 ghost use Rattle.std.specs.Prelude.{◌≡◌, option_map};
 ghost use Rattle.smv_meaning.specs.Types.{ExprType, infix_type_by};
 ghost use Rattle.smv_intervals.specs.View.{seen};
-ghost use Rattle.smv_intervals.specs.Limits.{Kept};
+ghost use Rattle.smv_intervals.specs.Limits.{FitsLimit};
 ghost use Rattle.smv_flat.specs.FlatView.{plain_flat};
 ghost use Rattle.smv_width.specs.FlatWidth.{integer_within, front_by, flat_number_of, flat_divisor};
 
@@ -13,7 +13,7 @@ use smv_text::{Infix, Prefix};
 
 // The type, if it is an integer type.
 fn integer(t: Option<Ty>) -> Option<Ty>
-    ensures { (is : ExprType) → Kept t is → option_map seen result ≡ integer_within is }
+    ensures { (is : ExprType) → FitsLimit t is → option_map seen result ≡ integer_within is }
 {
     match t {
         Some(Ty::Integer(_, _)) => t,

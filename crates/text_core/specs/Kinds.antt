@@ -93,7 +93,7 @@ trace_names =
 abbrev pub name_at : ℕ → List (List ℕ) → List ℕ
 name_at n names = if n == 0 then [] else get_or names (n - 1) []
 
--- the name that stands behind a kind in a note
+-- the name that is behind a kind in a note
 abbrev pub kind_name : Kind → List ℕ
 kind_name (S n) = name_at n smv_names
 kind_name (M n) = name_at n moxi_names

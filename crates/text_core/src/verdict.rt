@@ -2,7 +2,7 @@
 
 /// The clause of a run's definition that a stated run fails first at a step.
 ///
-/// The variants stand in the order in which the clauses are tested.
+/// The variants are in the order in which the clauses are tested.
 #[derive(Clone, Copy, Debug, PartialEq, Eq)]
 pub enum Clause {
     /// A value of a step that is not of its variable's type.

@@ -2,7 +2,7 @@
 use Rattle.std.proofs.Common.{zero, suc, ◌≡◌, ◌≢◌, ◌⊎◌, inl, inr, List, [], ℕ, Option, Some, None, Ok, ◌≤◌, length, refl, sym, ap, ◌∙◌, subst, take, arith}
 use Rattle.std.proofs.lemmas.List.{append-nil}
 use Rattle.std.specs.Prelude.{IfSome}
-use Rattle.text_core.specs.Outside.{Files, file_at, grown, Rose}
+use Rattle.text_core.specs.Outside.{Files, file_at, grown, HasNewFault}
 use Rattle.text_core.specs.declared.place.Refusal.{Refusal}
 use Rattle.text_core.specs.declared.verdict.Clause.{Clause}
 use Rattle.smv_text.specs.Tree.{PlainSource}
@@ -16,7 +16,7 @@ use Rattle.top_call.specs.declared.words.Command.TheVariants.{SmvToBtor, SmvToMo
 use Rattle.command_core.specs.Answers.{status_of, text_of, line_of}
 use Rattle.command_core.specs.Notes.{no_memory_line}
 use Rattle.top_call.specs.Outcome.{IsAbsent, IsCutLine, IsLineOf, MayAnswer, outcome_of}
-use Rattle.command_core.specs.Giving.{IsTold}
+use Rattle.command_core.specs.Giving.{IfExposed}
 use Rattle.top_call.specs.Words.{Answers, HasCorrectOutput}
 use Rattle.smv_commands.specs.Scripts.{ScriptsAreCorrect, moxi_text}
 use Rattle.command_core.specs.Sinks.{IsPart, Noted}
@@ -84,102 +84,102 @@ one_answer once (Some (Lower model second j)) fs a b h k = one_lowering fs model
 one_answer once (Some (Generate n)) fs a b h k = once n a b h k
 
 -- where the shelf's count did not rise, an answer that may be given is the defined one
-defined : (fs : Files) (command : Option Command) (rose : Type 0) (a : Answer) → MayAnswer (Some fs) command rose a → (rose → ⊥) → Answers command fs a
-defined fs None rose a m n = m
-defined fs (Some command) rose Usage m n = absurd m
-defined fs (Some command) rose (Unread name) m n = elim m.1 [ inl r ↦ absurd (n r) | inr d ↦ d ]
-defined fs (Some command) rose a m n = m
+defined : (fs : Files) (command : Option Command) (faulted : Type 0) (a : Answer) → MayAnswer (Some fs) command faulted a → (faulted → ⊥) → Answers command fs a
+defined fs None faulted a m n = m
+defined fs (Some command) faulted Usage m n = absurd m
+defined fs (Some command) faulted (Unread name) m n = elim m.1 [ inl r ↦ absurd (n r) | inr d ↦ d ]
+defined fs (Some command) faulted a m n = m
 
 -- a status is the answer's, or a fault of a sink
 abbrev Ends : Status → Answer → Type 0
 Ends s a = (s ≡ status_of a) ⊎ (s ≡ status.WriteFault)
 
 -- an answer that isn't that a file was not read is the defined one
-told : (files : Option Files) (command : Option Command) (rose : Type 0) (a : Answer) → MayAnswer files command rose a → status_of a ≢ status.ReadFault → IfSome files (λ fs. Answers command fs a)
-told None command rose a m n = tt
-told (Some fs) None rose a m n = m
-told (Some fs) (Some command) rose Usage m n = absurd m
-told (Some fs) (Some command) rose (Unread name) m n = absurd (n refl)
-told (Some fs) (Some command) rose a m n = m
+exposed : (files : Option Files) (command : Option Command) (faulted : Type 0) (a : Answer) → MayAnswer files command faulted a → status_of a ≢ status.ReadFault → IfSome files (λ fs. Answers command fs a)
+exposed None command faulted a m n = tt
+exposed (Some fs) None faulted a m n = m
+exposed (Some fs) (Some command) faulted Usage m n = absurd m
+exposed (Some fs) (Some command) faulted (Unread name) m n = absurd (n refl)
+exposed (Some fs) (Some command) faulted a m n = m
 
 by_status : {A : Type 0} (s other : Status) (a : Answer) → Ends s a → s ≡ other → other ≢ status.WriteFault → (status_of a ≡ other → A) → A
 by_status s other a ends is differs go = elim ends [ inl e ↦ go (sym e ∙ is) | inr w ↦ absurd (differs (sym is ∙ w)) ]
 
-done_by : (files : Option Files) (command : Option Command) (rose : Type 0) (a : Answer) (before now : Option (List ℕ)) → MayAnswer files command rose a → status_of a ≡ status.Done → now ≡ grown before (text_of a) → IfSome files (λ fs. (b : Answer) × Answers command fs b × (status_of b ≡ status.Done) × (now ≡ grown before (text_of b)))
-done_by None command rose a before now m s t = tt
-done_by (Some fs) command rose a before now m s t =
+done_by : (files : Option Files) (command : Option Command) (faulted : Type 0) (a : Answer) (before now : Option (List ℕ)) → MayAnswer files command faulted a → status_of a ≡ status.Done → now ≡ grown before (text_of a) → IfSome files (λ fs. (b : Answer) × Answers command fs b × (status_of b ≡ status.Done) × (now ≡ grown before (text_of b)))
+done_by None command faulted a before now m s t = tt
+done_by (Some fs) command faulted a before now m s t =
     let read : status_of a ≢ status.ReadFault = λ r. let clash : status.Done ≡ status.ReadFault = sym s ∙ r in absurd (cc) in
-    (a, told (Some fs) command rose a m read, s, t)
+    (a, exposed (Some fs) command faulted a m read, s, t)
 
-pub run_done : (files : Option Files) (command : Option Command) (rose : Type 0) (a : Answer) (s : Status) (before now : Option (List ℕ)) → MayAnswer files command rose a → Ends s a → (s ≢ status.WriteFault → now ≡ grown before (text_of a)) → s ≡ status.Done → IfSome files (λ fs. (b : Answer) × Answers command fs b × (status_of b ≡ status.Done) × (now ≡ grown before (text_of b)))
-run_done files command rose a s before now m ends t is =
+pub run_done : (files : Option Files) (command : Option Command) (faulted : Type 0) (a : Answer) (s : Status) (before now : Option (List ℕ)) → MayAnswer files command faulted a → Ends s a → (s ≢ status.WriteFault → now ≡ grown before (text_of a)) → s ≡ status.Done → IfSome files (λ fs. (b : Answer) × Answers command fs b × (status_of b ≡ status.Done) × (now ≡ grown before (text_of b)))
+run_done files command faulted a s before now m ends t is =
     let differs : s ≢ status.WriteFault = λ w. let clash : status.Done ≡ status.WriteFault = sym is ∙ w in absurd (cc) in
-    elim ends [ inl e ↦ done_by files command rose a before now m (sym e ∙ is) (t differs) | inr w ↦ absurd (differs w) ]
+    elim ends [ inl e ↦ done_by files command faulted a before now m (sym e ∙ is) (t differs) | inr w ↦ absurd (differs w) ]
 
-refused_by : (files : Option Files) (command : Option Command) (rose : Type 0) (a : Answer) → MayAnswer files command rose a → status_of a ≡ status.Refused → IfSome files (λ fs. (refusal : Refusal) × Answers command fs (Refused refusal))
-refused_by None command rose a m s = tt
-refused_by (Some fs) None rose a m s = absurd (let clash : status.Usage ≡ status.Refused = sym (ap status_of m) ∙ s in cc)
-refused_by (Some fs) (Some command) rose (Refused r) m s = (r, m)
-refused_by (Some fs) (Some command) rose a m s = absurd (cc)
+refused_by : (files : Option Files) (command : Option Command) (faulted : Type 0) (a : Answer) → MayAnswer files command faulted a → status_of a ≡ status.Refused → IfSome files (λ fs. (refusal : Refusal) × Answers command fs (Refused refusal))
+refused_by None command faulted a m s = tt
+refused_by (Some fs) None faulted a m s = absurd (let clash : status.Usage ≡ status.Refused = sym (ap status_of m) ∙ s in cc)
+refused_by (Some fs) (Some command) faulted (Refused r) m s = (r, m)
+refused_by (Some fs) (Some command) faulted a m s = absurd (cc)
 
-pub run_refused : (files : Option Files) (command : Option Command) (rose : Type 0) (a : Answer) (s : Status) → MayAnswer files command rose a → Ends s a → s ≡ status.Refused → IfSome files (λ fs. (refusal : Refusal) × Answers command fs (Refused refusal))
-run_refused files command rose a s m ends is = by_status s status.Refused a ends is (λ e. absurd (cc)) (refused_by files command rose a m)
+pub run_refused : (files : Option Files) (command : Option Command) (faulted : Type 0) (a : Answer) (s : Status) → MayAnswer files command faulted a → Ends s a → s ≡ status.Refused → IfSome files (λ fs. (refusal : Refusal) × Answers command fs (Refused refusal))
+run_refused files command faulted a s m ends is = by_status s status.Refused a ends is (λ e. absurd (cc)) (refused_by files command faulted a m)
 
-second_refused_by : (files : Option Files) (command : Option Command) (rose : Type 0) (a : Answer) → MayAnswer files command rose a → status_of a ≡ status.SecondRefused → IfSome files (λ fs. (refusal : Refusal) × Answers command fs (SecondRefused refusal))
-second_refused_by None command rose a m s = tt
-second_refused_by (Some fs) None rose a m s = absurd (let clash : status.Usage ≡ status.SecondRefused = sym (ap status_of m) ∙ s in cc)
-second_refused_by (Some fs) (Some command) rose (SecondRefused r) m s = (r, m)
-second_refused_by (Some fs) (Some command) rose a m s = absurd (cc)
+second_refused_by : (files : Option Files) (command : Option Command) (faulted : Type 0) (a : Answer) → MayAnswer files command faulted a → status_of a ≡ status.SecondRefused → IfSome files (λ fs. (refusal : Refusal) × Answers command fs (SecondRefused refusal))
+second_refused_by None command faulted a m s = tt
+second_refused_by (Some fs) None faulted a m s = absurd (let clash : status.Usage ≡ status.SecondRefused = sym (ap status_of m) ∙ s in cc)
+second_refused_by (Some fs) (Some command) faulted (SecondRefused r) m s = (r, m)
+second_refused_by (Some fs) (Some command) faulted a m s = absurd (cc)
 
-pub run_second_refused : (files : Option Files) (command : Option Command) (rose : Type 0) (a : Answer) (s : Status) → MayAnswer files command rose a → Ends s a → s ≡ status.SecondRefused → IfSome files (λ fs. (refusal : Refusal) × Answers command fs (SecondRefused refusal))
-run_second_refused files command rose a s m ends is = by_status s status.SecondRefused a ends is (λ e. absurd (cc)) (second_refused_by files command rose a m)
+pub run_second_refused : (files : Option Files) (command : Option Command) (faulted : Type 0) (a : Answer) (s : Status) → MayAnswer files command faulted a → Ends s a → s ≡ status.SecondRefused → IfSome files (λ fs. (refusal : Refusal) × Answers command fs (SecondRefused refusal))
+run_second_refused files command faulted a s m ends is = by_status s status.SecondRefused a ends is (λ e. absurd (cc)) (second_refused_by files command faulted a m)
 
-no_by : (files : Option Files) (command : Option Command) (rose : Type 0) (a : Answer) → MayAnswer files command rose a → status_of a ≡ status.No → IfSome files (λ fs. (step : ℕ) × (clause : Clause) × Answers command fs (No step clause))
-no_by None command rose a m s = tt
-no_by (Some fs) None rose a m s = absurd (let clash : status.Usage ≡ status.No = sym (ap status_of m) ∙ s in cc)
-no_by (Some fs) (Some command) rose (No step clause) m s = (step, clause, m)
-no_by (Some fs) (Some command) rose a m s = absurd (cc)
+no_by : (files : Option Files) (command : Option Command) (faulted : Type 0) (a : Answer) → MayAnswer files command faulted a → status_of a ≡ status.No → IfSome files (λ fs. (step : ℕ) × (clause : Clause) × Answers command fs (No step clause))
+no_by None command faulted a m s = tt
+no_by (Some fs) None faulted a m s = absurd (let clash : status.Usage ≡ status.No = sym (ap status_of m) ∙ s in cc)
+no_by (Some fs) (Some command) faulted (No step clause) m s = (step, clause, m)
+no_by (Some fs) (Some command) faulted a m s = absurd (cc)
 
-pub run_no : (files : Option Files) (command : Option Command) (rose : Type 0) (a : Answer) (s : Status) → MayAnswer files command rose a → Ends s a → s ≡ status.No → IfSome files (λ fs. (step : ℕ) × (clause : Clause) × Answers command fs (No step clause))
-run_no files command rose a s m ends is = by_status s status.No a ends is (λ e. absurd (cc)) (no_by files command rose a m)
+pub run_no : (files : Option Files) (command : Option Command) (faulted : Type 0) (a : Answer) (s : Status) → MayAnswer files command faulted a → Ends s a → s ≡ status.No → IfSome files (λ fs. (step : ℕ) × (clause : Clause) × Answers command fs (No step clause))
+run_no files command faulted a s m ends is = by_status s status.No a ends is (λ e. absurd (cc)) (no_by files command faulted a m)
 
-usage_by : (files : Option Files) (command : Option Command) (rose : Type 0) (a : Answer) → MayAnswer files command rose a → status_of a ≡ status.Usage → command ≡ None
-usage_by files None rose a m s = refl
-usage_by files (Some command) rose Usage m s = absurd m
-usage_by files (Some command) rose a m s = absurd (cc)
+usage_by : (files : Option Files) (command : Option Command) (faulted : Type 0) (a : Answer) → MayAnswer files command faulted a → status_of a ≡ status.Usage → command ≡ None
+usage_by files None faulted a m s = refl
+usage_by files (Some command) faulted Usage m s = absurd m
+usage_by files (Some command) faulted a m s = absurd (cc)
 
-pub run_usage : (files : Option Files) (command : Option Command) (rose : Type 0) (a : Answer) (s : Status) → MayAnswer files command rose a → Ends s a → s ≡ status.Usage → command ≡ None
-run_usage files command rose a s m ends is = by_status s status.Usage a ends is (λ e. absurd (cc)) (usage_by files command rose a m)
+pub run_usage : (files : Option Files) (command : Option Command) (faulted : Type 0) (a : Answer) (s : Status) → MayAnswer files command faulted a → Ends s a → s ≡ status.Usage → command ≡ None
+run_usage files command faulted a s m ends is = by_status s status.Usage a ends is (λ e. absurd (cc)) (usage_by files command faulted a m)
 
-pub run_no_command : (files : Option Files) (command : Option Command) (rose : Type 0) (a : Answer) (s : Status) → MayAnswer files command rose a → Ends s a → command ≡ None → (s ≡ status.Usage) ⊎ ((s ≡ status.WriteFault) ⊎ (s ≡ status.NoMemory))
-run_no_command files None rose a s m ends none = elim ends [ inl e ↦ inl (e ∙ ap status_of m) | inr w ↦ inr (inl w) ]
-run_no_command files (Some command) rose a s m ends none = absurd (cc)
+pub run_no_command : (files : Option Files) (command : Option Command) (faulted : Type 0) (a : Answer) (s : Status) → MayAnswer files command faulted a → Ends s a → command ≡ None → (s ≡ status.Usage) ⊎ ((s ≡ status.WriteFault) ⊎ (s ≡ status.NoMemory))
+run_no_command files None faulted a s m ends none = elim ends [ inl e ↦ inl (e ∙ ap status_of m) | inr w ↦ inr (inl w) ]
+run_no_command files (Some command) faulted a s m ends none = absurd (cc)
 
-read_by : (files : Option Files) (command : Option Command) (rose : Type 0) (a : Answer) → MayAnswer files command rose a → status_of a ≡ status.ReadFault → rose ⊎ IsAbsent files command
-read_by files None rose a m s = absurd (let clash : status.Usage ≡ status.ReadFault = sym (ap status_of m) ∙ s in cc)
-read_by files (Some command) rose (Unread name) m s = elim m.1 [ inl r ↦ inl r | inr d ↦ inr (absent_by files (Some command) name d) ]
+read_by : (files : Option Files) (command : Option Command) (faulted : Type 0) (a : Answer) → MayAnswer files command faulted a → status_of a ≡ status.ReadFault → faulted ⊎ IsAbsent files command
+read_by files None faulted a m s = absurd (let clash : status.Usage ≡ status.ReadFault = sym (ap status_of m) ∙ s in cc)
+read_by files (Some command) faulted (Unread name) m s = elim m.1 [ inl r ↦ inl r | inr d ↦ inr (absent_by files (Some command) name d) ]
   where
-    absent_by : (files : Option Files) (command : Option Command) (name : List ℕ) → IsTold files (λ fs. Answers command fs (Unread name)) → IsAbsent files command
+    absent_by : (files : Option Files) (command : Option Command) (name : List ℕ) → IfExposed files (λ fs. Answers command fs (Unread name)) → IsAbsent files command
     absent_by None command name d = d
     absent_by (Some fs) command name d = (name, d)
-read_by files (Some command) rose a m s = absurd (cc)
+read_by files (Some command) faulted a m s = absurd (cc)
 
-pub run_read_fault : (files : Option Files) (command : Option Command) (rose : Type 0) (a : Answer) (s : Status) → MayAnswer files command rose a → Ends s a → s ≡ status.ReadFault → rose ⊎ IsAbsent files command
-run_read_fault files command rose a s m ends is = by_status s status.ReadFault a ends is (λ e. absurd (cc)) (read_by files command rose a m)
+pub run_read_fault : (files : Option Files) (command : Option Command) (faulted : Type 0) (a : Answer) (s : Status) → MayAnswer files command faulted a → Ends s a → s ≡ status.ReadFault → faulted ⊎ IsAbsent files command
+run_read_fault files command faulted a s m ends is = by_status s status.ReadFault a ends is (λ e. absurd (cc)) (read_by files command faulted a m)
 
-unread_by : (once : OneGenerated) → (fs : Files) (command : Option Command) (rose : Type 0) (a : Answer) (name : List ℕ) → MayAnswer (Some fs) command rose a → Answers command fs (Unread name) → status_of a ≡ status.ReadFault
-unread_by once fs None rose a name m d = absurd (let clash : Unread name ≡ Usage = d in cc)
-unread_by once fs (Some command) rose Usage name m d = absurd m
-unread_by once fs (Some command) rose (Unread other) name m d = refl
-unread_by once fs (Some command) rose (Refused r) name m d = ap status_of (one_answer once (Some command) fs (Refused r) (Unread name) m d)
-unread_by once fs (Some command) rose (SecondRefused r) name m d = ap status_of (one_answer once (Some command) fs (SecondRefused r) (Unread name) m d)
-unread_by once fs (Some command) rose (No step clause) name m d = ap status_of (one_answer once (Some command) fs (No step clause) (Unread name) m d)
-unread_by once fs (Some command) rose (Done output) name m d = ap status_of (one_answer once (Some command) fs (Done output) (Unread name) m d)
+unread_by : (once : OneGenerated) → (fs : Files) (command : Option Command) (faulted : Type 0) (a : Answer) (name : List ℕ) → MayAnswer (Some fs) command faulted a → Answers command fs (Unread name) → status_of a ≡ status.ReadFault
+unread_by once fs None faulted a name m d = absurd (let clash : Unread name ≡ Usage = d in cc)
+unread_by once fs (Some command) faulted Usage name m d = absurd m
+unread_by once fs (Some command) faulted (Unread other) name m d = refl
+unread_by once fs (Some command) faulted (Refused r) name m d = ap status_of (one_answer once (Some command) fs (Refused r) (Unread name) m d)
+unread_by once fs (Some command) faulted (SecondRefused r) name m d = ap status_of (one_answer once (Some command) fs (SecondRefused r) (Unread name) m d)
+unread_by once fs (Some command) faulted (No step clause) name m d = ap status_of (one_answer once (Some command) fs (No step clause) (Unread name) m d)
+unread_by once fs (Some command) faulted (Done output) name m d = ap status_of (one_answer once (Some command) fs (Done output) (Unread name) m d)
 
-pub run_absent : (once : OneGenerated) → (files : Option Files) (command : Option Command) (rose : Type 0) (a : Answer) (s : Status) → MayAnswer files command rose a → Ends s a → IsAbsent files command → (s ≡ status.ReadFault) ⊎ ((s ≡ status.WriteFault) ⊎ (s ≡ status.NoMemory))
-run_absent once None command rose a s m ends absent = absurd absent
-run_absent once (Some fs) command rose a s m ends absent =
-    elim ends [ inl e ↦ inl (e ∙ unread_by once fs command rose a absent.0 m absent.1) | inr w ↦ inr (inl w) ]
+pub run_absent : (once : OneGenerated) → (files : Option Files) (command : Option Command) (faulted : Type 0) (a : Answer) (s : Status) → MayAnswer files command faulted a → Ends s a → IsAbsent files command → (s ≡ status.ReadFault) ⊎ ((s ≡ status.WriteFault) ⊎ (s ≡ status.NoMemory))
+run_absent once None command faulted a s m ends absent = absurd absent
+run_absent once (Some fs) command faulted a s m ends absent =
+    elim ends [ inl e ↦ inl (e ∙ unread_by once fs command faulted a absent.0 m absent.1) | inr w ↦ inr (inl w) ]
 
 grown_nothing : (before : Option (List ℕ)) → grown before [] ≡ before
 grown_nothing None = refl
@@ -196,14 +196,14 @@ nothing_put before now bytes p =
     let none : p.count ≡ 0 = omega (arith, p.within) in
     record { count = 0; within = omega arith; taken = p.taken ∙ ap (λ n. grown before (take n [])) none }
 
-part_by : (once : OneGenerated) → (fs : Files) (command : Option Command) (rose : Type 0) (a b : Answer) (before now : Option (List ℕ)) → MayAnswer (Some fs) command rose a → Answers command fs b → IsPart before now (text_of a) → IsPart before now (text_of b)
-part_by once fs None rose a b before now m d p = subst (IsPart before now) (ap text_of (m ∙ sym d)) p
-part_by once fs (Some command) rose (Done output) b before now m d p = subst (IsPart before now) (ap text_of (one_answer once (Some command) fs (Done output) b m d)) p
-part_by once fs (Some command) rose a b before now m d p = nothing_put before now (text_of b) p
+part_by : (once : OneGenerated) → (fs : Files) (command : Option Command) (faulted : Type 0) (a b : Answer) (before now : Option (List ℕ)) → MayAnswer (Some fs) command faulted a → Answers command fs b → IsPart before now (text_of a) → IsPart before now (text_of b)
+part_by once fs None faulted a b before now m d p = subst (IsPart before now) (ap text_of (m ∙ sym d)) p
+part_by once fs (Some command) faulted (Done output) b before now m d p = subst (IsPart before now) (ap text_of (one_answer once (Some command) fs (Done output) b m d)) p
+part_by once fs (Some command) faulted a b before now m d p = nothing_put before now (text_of b) p
 
-pub run_prefix : (once : OneGenerated) → (files : Option Files) (command : Option Command) (rose : Type 0) (a : Answer) (before now : Option (List ℕ)) → MayAnswer files command rose a → IsPart before now (text_of a) → IfSome files (λ fs. (b : Answer) → Answers command fs b → IsPart before now (text_of b))
-run_prefix once None command rose a before now m p = tt
-run_prefix once (Some fs) command rose a before now m p = λ b d. part_by once fs command rose a b before now m d p
+pub run_prefix : (once : OneGenerated) → (files : Option Files) (command : Option Command) (faulted : Type 0) (a : Answer) (before now : Option (List ℕ)) → MayAnswer files command faulted a → IsPart before now (text_of a) → IfSome files (λ fs. (b : Answer) → Answers command fs b → IsPart before now (text_of b))
+run_prefix once None command faulted a before now m p = tt
+run_prefix once (Some fs) command faulted a before now m p = λ b d. part_by once fs command faulted a b before now m d p
 
 pub run_complete : (once : OneGenerated) → (files : Option Files) (command : Option Command) (shelf out notes : Type 0) (a : Answer) (s : Status) (before now was is : Option (List ℕ)) → MayAnswer files command shelf a → Ends s a
     → (s ≢ status.WriteFault → now ≡ grown before (text_of a)) → (s ≢ status.WriteFault → is ≡ grown was (line_of a)) → (s ≡ status.WriteFault → out ⊎ notes)
@@ -243,20 +243,20 @@ run_silent a s before now ends line is =
     ]
 
 -- the line of an answer that may be given is that of its status
-line_stands : (files : Option Files) (command : Option Command) (rose : Type 0) (a : Answer) → MayAnswer files command rose a → IsLineOf files command rose (status_of a) (line_of a)
-line_stands files None rose a m = subst (λ b. IsLineOf files None rose (status_of b) (line_of b)) (sym m) (refl, refl)
-line_stands files (Some command) rose Usage m = absurd m
-line_stands files (Some command) rose (Unread name) m = (name, m, refl)
-line_stands files (Some command) rose (Refused r) m = (r, m, refl)
-line_stands files (Some command) rose (SecondRefused r) m = (r, m, refl)
-line_stands files (Some command) rose (No step clause) m = (step, clause, m, refl)
-line_stands files (Some command) rose (Done output) m = refl
+line_stands : (files : Option Files) (command : Option Command) (faulted : Type 0) (a : Answer) → MayAnswer files command faulted a → IsLineOf files command faulted (status_of a) (line_of a)
+line_stands files None faulted a m = subst (λ b. IsLineOf files None faulted (status_of b) (line_of b)) (sym m) (refl, refl)
+line_stands files (Some command) faulted Usage m = absurd m
+line_stands files (Some command) faulted (Unread name) m = (name, m, refl)
+line_stands files (Some command) faulted (Refused r) m = (r, m, refl)
+line_stands files (Some command) faulted (SecondRefused r) m = (r, m, refl)
+line_stands files (Some command) faulted (No step clause) m = (step, clause, m, refl)
+line_stands files (Some command) faulted (Done output) m = refl
 
-pub run_noted : (files : Option Files) (command : Option Command) (rose : Type 0) (a : Answer) (s : Status) (before now : Option (List ℕ)) → MayAnswer files command rose a → Ends s a → (s ≢ status.WriteFault → now ≡ grown before (line_of a)) → s ≢ status.WriteFault
-    → (line : List ℕ) × IsLineOf files command rose s line × (now ≡ grown before line)
-run_noted files command rose a s before now m ends line w =
+pub run_noted : (files : Option Files) (command : Option Command) (faulted : Type 0) (a : Answer) (s : Status) (before now : Option (List ℕ)) → MayAnswer files command faulted a → Ends s a → (s ≢ status.WriteFault → now ≡ grown before (line_of a)) → s ≢ status.WriteFault
+    → (line : List ℕ) × IsLineOf files command faulted s line × (now ≡ grown before line)
+run_noted files command faulted a s before now m ends line w =
     elim ends [
-      | inl e ↦ (line_of a, subst (λ t. IsLineOf files command rose t (line_of a)) (sym e) (line_stands files command rose a m), line w)
+      | inl e ↦ (line_of a, subst (λ t. IsLineOf files command faulted t (line_of a)) (sym e) (line_stands files command faulted a m), line w)
       | inr f ↦ absurd (w f)
     ]
 
@@ -268,17 +268,17 @@ no_fault (SecondRefused r) e = absurd (cc)
 no_fault (No step clause) e = absurd (cc)
 no_fault (Done output) e = absurd (cc)
 
-pub run_cut : (files : Option Files) (command : Option Command) (rose : Type 0) (a : Answer) (before now : Option (List ℕ)) → MayAnswer files command rose a → status_of a ≢ status.Done → IsPart before now (line_of a) → IsCutLine files command rose before now
-run_cut files command rose a before now m d p =
-    record { ending = status_of a; notes = d; differs = no_fault a; line = line_of a; is_line = line_stands files command rose a m; front = p }
+pub run_cut : (files : Option Files) (command : Option Command) (faulted : Type 0) (a : Answer) (before now : Option (List ℕ)) → MayAnswer files command faulted a → status_of a ≢ status.Done → IsPart before now (line_of a) → IsCutLine files command faulted before now
+run_cut files command faulted a before now m d p =
+    record { ending = status_of a; notes = d; differs = no_fault a; line = line_of a; is_line = line_stands files command faulted a m; front = p }
 
-pub run_fault_noted : (files : Option Files) (command : Option Command) (rose : Type 0) (a : Answer) (s : Status) (out notes untouched : Type 0) (before now : Option (List ℕ)) → MayAnswer files command rose a
-    → (s ≡ status.WriteFault → out ⊎ (untouched × (status_of a ≢ status.Done) × IsPart before now (line_of a) × notes)) → s ≡ status.WriteFault → out ⊎ (notes × untouched × IsCutLine files command rose before now)
-run_fault_noted files command rose a s out notes untouched before now m w is =
-    elim (w is) [ inl o ↦ inl o | inr c ↦ inr (c.3, c.0, run_cut files command rose a before now m c.1 c.2) ]
+pub run_fault_noted : (files : Option Files) (command : Option Command) (faulted : Type 0) (a : Answer) (s : Status) (out notes untouched : Type 0) (before now : Option (List ℕ)) → MayAnswer files command faulted a
+    → (s ≡ status.WriteFault → out ⊎ (untouched × (status_of a ≢ status.Done) × IsPart before now (line_of a) × notes)) → s ≡ status.WriteFault → out ⊎ (notes × untouched × IsCutLine files command faulted before now)
+run_fault_noted files command faulted a s out notes untouched before now m w is =
+    elim (w is) [ inl o ↦ inl o | inr c ↦ inr (c.3, c.0, run_cut files command faulted a before now m c.1 c.2) ]
 
-pub run_write_fault : (out told untouched undone part notes : Type 0) (s : Status) → (s ≡ status.WriteFault → (out × told) ⊎ (untouched × undone × part × notes)) → s ≡ status.WriteFault → out ⊎ notes
-run_write_fault out told untouched undone part notes s w is = elim (w is) [ inl o ↦ inl o.0 | inr n ↦ inr n.3 ]
+pub run_write_fault : (out exposed untouched undone part notes : Type 0) (s : Status) → (s ≡ status.WriteFault → (out × exposed) ⊎ (untouched × undone × part × notes)) → s ≡ status.WriteFault → out ⊎ notes
+run_write_fault out exposed untouched undone part notes s w is = elim (w is) [ inl o ↦ inl o.0 | inr n ↦ inr n.3 ]
 
 no_want : (a : Answer) → status_of a ≢ status.NoMemory
 no_want Usage e = absurd (cc)
@@ -297,17 +297,17 @@ run_memory a s ends is =
     ]
 
 -- there was no memory
-pub memory_noted : (files : Option Files) (command : Option Command) (rose : Type 0) (s : Status) (before now : Option (List ℕ)) (count later : ℕ) → Noted before now count later no_memory_line status.NoMemory s → s ≢ status.WriteFault
-    → (line : List ℕ) × IsLineOf files command rose s line × (now ≡ grown before line)
-memory_noted files command rose s before now count later n w =
+pub memory_noted : (files : Option Files) (command : Option Command) (faulted : Type 0) (s : Status) (before now : Option (List ℕ)) (count later : ℕ) → Noted before now count later no_memory_line status.NoMemory s → s ≢ status.WriteFault
+    → (line : List ℕ) × IsLineOf files command faulted s line × (now ≡ grown before line)
+memory_noted files command faulted s before now count later n w =
     elim n [
-      | inl whole ↦ (no_memory_line, subst (λ t. IsLineOf files command rose t no_memory_line) (sym whole.0) refl, whole.1)
+      | inl whole ↦ (no_memory_line, subst (λ t. IsLineOf files command faulted t no_memory_line) (sym whole.0) refl, whole.1)
       | inr cut ↦ absurd (w cut.0)
     ]
 
-pub memory_fault_noted : {T : Type 0} (files : Option Files) (command : Option Command) (rose out : Type 0) (s : Status) (taken : T) (before now : Option (List ℕ)) (count later : ℕ) → Noted before now count later no_memory_line status.NoMemory s → s ≡ status.WriteFault
-    → out ⊎ (Rose count later × (taken ≡ taken) × IsCutLine files command rose before now)
-memory_fault_noted files command rose out s taken before now count later n is =
+pub memory_fault_noted : {T : Type 0} (files : Option Files) (command : Option Command) (faulted out : Type 0) (s : Status) (taken : T) (before now : Option (List ℕ)) (count later : ℕ) → Noted before now count later no_memory_line status.NoMemory s → s ≡ status.WriteFault
+    → out ⊎ (HasNewFault count later × (taken ≡ taken) × IsCutLine files command faulted before now)
+memory_fault_noted files command faulted out s taken before now count later n is =
     elim n [
       | inl whole ↦ absurd (let clash : status.WriteFault ≡ status.NoMemory = sym is ∙ whole.0 in cc)
       | inr cut ↦ inr (cut.2, refl, record { ending = status.NoMemory; notes = λ e. absurd (cc); differs = λ e. absurd (cc); line = no_memory_line; is_line = refl; front = cut.1 })
@@ -455,7 +455,7 @@ no_memory_generated n s taken before now count later noted =
     ]
 
 -- nothing is written where the words are no command
-pub run_no_text : (files : Option Files) (command : Option Command) (rose : Type 0) (a : Answer) (before now : Option (List ℕ)) → MayAnswer files command rose a → IsPart before now (text_of a) → command ≡ None → now ≡ before
-run_no_text files None rose a before now m part is =
+pub run_no_text : (files : Option Files) (command : Option Command) (faulted : Type 0) (a : Answer) (before now : Option (List ℕ)) → MayAnswer files command faulted a → IsPart before now (text_of a) → command ≡ None → now ≡ before
+run_no_text files None faulted a before now m part is =
     part.taken ∙ ap (λ bytes. grown before (take part.count bytes)) (ap text_of m) ∙ nothing_taken part.count before
-run_no_text files (Some command) rose a before now m part is = absurd (cc)
+run_no_text files (Some command) faulted a before now m part is = absurd (cc)

@@ -10,7 +10,7 @@ use Rattle.command_core.specs.declared.answer.Stop.TheVariants as stop
 use Rattle.command_core.specs.declared.status.Status.TheVariants as status
 use Rattle.command_core.specs.Answers.{status_of, text_of}
 use Rattle.command_core.specs.Reading.{SaysRead}
-use Rattle.command_core.specs.laws.Files.{whatever_told}
+use Rattle.command_core.specs.laws.Files.{whatever_exposed}
 use Rattle.command_core.specs.Numbers.{countable, decimal_number}
 use Rattle.command_core.specs.Words.{PlainWords, words_of}
 use Rattle.generate.specs.Generating.{IsGenerated}
@@ -93,20 +93,20 @@ in_range words command e = subst (λ c. IfSome c IsInRange) (sym e) (from_in_ran
 
 -- ---- the answer
 
-pub generated_given : (files : Option Files) (rose : Type 0) (n : ℕ) (a : Answer) → IsGenerated n a → MayAnswer files (Some (Generate n)) rose a
-generated_given files rose n a h = by_answer a (generated_says n a h) h
+pub generated_given : (files : Option Files) (faulted : Type 0) (n : ℕ) (a : Answer) → IsGenerated n a → MayAnswer files (Some (Generate n)) faulted a
+generated_given files faulted n a h = by_answer a (generated_says n a h) h
   where
-    by_answer : (a : Answer) → SaysRead a → IsGenerated n a → MayAnswer files (Some (Generate n)) rose a
+    by_answer : (a : Answer) → SaysRead a → IsGenerated n a → MayAnswer files (Some (Generate n)) faulted a
     by_answer Usage says h = absurd says
     by_answer (Unread name) says h = absurd says
-    by_answer (Refused refusal) says h = whatever_told files h
-    by_answer (SecondRefused refusal) says h = whatever_told files h
-    by_answer (No step clause) says h = whatever_told files h
-    by_answer (Done output) says h = whatever_told files h
+    by_answer (Refused refusal) says h = whatever_exposed files h
+    by_answer (SecondRefused refusal) says h = whatever_exposed files h
+    by_answer (No step clause) says h = whatever_exposed files h
+    by_answer (Done output) says h = whatever_exposed files h
 
-pub generated_ok : {E : Type 0} (files : Option Files) (rose : Type 0) (n : ℕ) (result : Result Answer E) → IfOk result (IsGenerated n) → IfOk result (MayAnswer files (Some (Generate n)) rose)
-generated_ok files rose n (Ok a) h = generated_given files rose n a h
-generated_ok files rose n (Err e) h = tt
+pub generated_ok : {E : Type 0} (files : Option Files) (faulted : Type 0) (n : ℕ) (result : Result Answer E) → IfOk result (IsGenerated n) → IfOk result (MayAnswer files (Some (Generate n)) faulted)
+generated_ok files faulted n (Ok a) h = generated_given files faulted n a h
+generated_ok files faulted n (Err e) h = tt
 
 refused_not_done : {P : Type 0} (a b : Answer) → status_of a ≡ status.Done → a ≡ b → status_of b ≢ status.Done → P
 refused_not_done a b s e n = absurd (n (sym (ap status_of e) ∙ s))

@@ -1,6 +1,6 @@
 // The top call: reads the words as a command, runs it, and writes its answer.
 ghost use Rattle.std.specs.Prelude.{◌≡◌, ◌≢◌, ◌⊎◌, ◌<◌, ◌≤◌, length, map, string_bytes, None, Some, Ok, IfOk, IfSome, OnErr, List, ℕ};
-ghost use Rattle.text_core.specs.Outside.{file_at, grown, Rose};
+ghost use Rattle.text_core.specs.Outside.{file_at, grown, HasNewFault};
 ghost use Rattle.text_core.specs.declared.place.Refusal.{Refusal};
 ghost use Rattle.text_core.specs.declared.verdict.Clause.{Clause};
 ghost use Rattle.smv_text.specs.Tree.{PlainSource};
@@ -10,7 +10,7 @@ ghost use Rattle.command_core.specs.Answers.{line_of, status_of, text_of};
 ghost use Rattle.command_core.specs.Notes.{write_fault_line};
 ghost use Rattle.top_call.specs.Outcome.{BeginsFor, IsAbsent, IsCutLine, IsLineOf, MayAnswer, outcome_of};
 ghost use Rattle.command_core.specs.Reading.{SaysUnread};
-ghost use Rattle.command_core.specs.Sinks.{IsPart, Took};
+ghost use Rattle.command_core.specs.Sinks.{IsPart, WroteLine};
 ghost use Rattle.smv_commands.specs.Translation.{Accepts, TranslatesTo, btor_text};
 ghost use Rattle.text_core.specs.declared.verdict.Verdict.TheVariants.{Yes};
 ghost use Rattle.btor_tree.specs.declared.lines.Line.{Line};
@@ -65,7 +65,7 @@ pub fn run<F: Shelf, K: Sink, N: Sink>(
     // in frame k. Runs and invariants are those of the whole language.
     ensures translates { IfSome (F.files shelf.old) (λ files. (model bytes : List ℕ) (source : PlainSource)
         → command_of (map string_bytes words.now.items) ≡ Some (Command.SmvToBtor model) → file_at files model ≡ Some bytes → Accepts bytes source
-        → ¬ Rose (F.faults shelf.old) (F.faults shelf.new) → ¬ Rose (K.faults out.old) (K.faults out.new) → ¬ Rose (N.faults notes.old) (N.faults notes.new)
+        → ¬ HasNewFault (F.faults shelf.old) (F.faults shelf.new) → ¬ HasNewFault (K.faults out.old) (K.faults out.new) → ¬ HasNewFault (N.faults notes.old) (N.faults notes.new)
         → result ≢ Status.NoMemory
         → (result ≡ Status.Done) × ((text : List ℕ) × (K.taken out.new ≡ grown (K.taken out.old) text) × TranslatesTo source text)) }
 
@@ -76,7 +76,7 @@ pub fn run<F: Shelf, K: Sink, N: Sink>(
     ensures lifts { IfSome (F.files shelf.old) (λ files. (model second bytes text : List ℕ) (source : PlainSource) (lines : List Line) (witness : Witness)
         → command_of (map string_bytes words.now.items) ≡ Some (Command.LiftSmv model second) → file_at files model ≡ Some bytes → Accepts bytes source
         → SpellsLines (btor_text source) lines → file_at files second ≡ Some text → SpellsWitness lines text witness → judged_btor lines witness Yes
-        → ¬ Rose (F.faults shelf.old) (F.faults shelf.new) → ¬ Rose (K.faults out.old) (K.faults out.new) → ¬ Rose (N.faults notes.old) (N.faults notes.new)
+        → ¬ HasNewFault (F.faults shelf.old) (F.faults shelf.new) → ¬ HasNewFault (K.faults out.old) (K.faults out.new) → ¬ HasNewFault (N.faults notes.old) (N.faults notes.new)
         → result ≢ Status.NoMemory
         → (result ≡ Status.Done) × ((trace : List ℕ) × (K.taken out.new ≡ grown (K.taken out.old) trace) × LiftsBack source witness trace)) }
 
@@ -87,7 +87,7 @@ pub fn run<F: Shelf, K: Sink, N: Sink>(
     ensures lowers { IfSome (F.files shelf.old) (λ files. (model second bytes trace : List ℕ) (j : ℕ) (source : PlainSource) (run : Run)
         → command_of (map string_bytes words.now.items) ≡ Some (Command.Lower model second j) → file_at files model ≡ Some bytes → IsAcceptedModel bytes j source
         → file_at files second ≡ Some trace → trace_of (declared_by source) trace ≡ Ok run → verdict_on source j run ≡ Yes
-        → ¬ Rose (F.faults shelf.old) (F.faults shelf.new) → ¬ Rose (K.faults out.old) (K.faults out.new) → ¬ Rose (N.faults notes.old) (N.faults notes.new)
+        → ¬ HasNewFault (F.faults shelf.old) (F.faults shelf.new) → ¬ HasNewFault (K.faults out.old) (K.faults out.new) → ¬ HasNewFault (N.faults notes.old) (N.faults notes.new)
         → result ≢ Status.NoMemory
         → (result ≡ Status.Done) × ((text : List ℕ) × (K.taken out.new ≡ grown (K.taken out.old) text) × StatesRun source j run text)) }
 
@@ -97,7 +97,7 @@ pub fn run<F: Shelf, K: Sink, N: Sink>(
     ensures lifts_smaller { IfSome (F.files shelf.old) (λ files. (model second bytes shorter text : List ℕ) (source : PlainSource) (lines : List Line) (witness : Witness)
         → command_of (map string_bytes words.now.items) ≡ Some (Command.LiftSmv model second) → file_at files model ≡ Some bytes → Accepts bytes source
         → IsSmallerText (btor_text source) shorter → SpellsLines shorter lines → file_at files second ≡ Some text → SpellsWitness lines text witness → judged_btor lines witness Yes
-        → ¬ Rose (F.faults shelf.old) (F.faults shelf.new) → ¬ Rose (K.faults out.old) (K.faults out.new) → ¬ Rose (N.faults notes.old) (N.faults notes.new)
+        → ¬ HasNewFault (F.faults shelf.old) (F.faults shelf.new) → ¬ HasNewFault (K.faults out.old) (K.faults out.new) → ¬ HasNewFault (N.faults notes.old) (N.faults notes.new)
         → result ≢ Status.NoMemory
         → (result ≡ Status.Done) × ((trace : List ℕ) × (K.taken out.new ≡ grown (K.taken out.old) trace) × LiftsBack source witness trace)) }
 
@@ -106,7 +106,7 @@ pub fn run<F: Shelf, K: Sink, N: Sink>(
     ensures responds { IfSome (F.files shelf.old) (λ files. (model second bytes shorter text : List ℕ) (script : PlainScript) (lines : List Line) (witness : Witness)
         → command_of (map string_bytes words.now.items) ≡ Some (Command.LiftMoxi model second) → file_at files model ≡ Some bytes → IsInstantiated bytes script
         → IsSmallerText (script_lines script) shorter → SpellsLines shorter lines → file_at files second ≡ Some text → SpellsWitness lines text witness → judged_btor lines witness Yes
-        → ¬ Rose (F.faults shelf.old) (F.faults shelf.new) → ¬ Rose (K.faults out.old) (K.faults out.new) → ¬ Rose (N.faults notes.old) (N.faults notes.new)
+        → ¬ HasNewFault (F.faults shelf.old) (F.faults shelf.new) → ¬ HasNewFault (K.faults out.old) (K.faults out.new) → ¬ HasNewFault (N.faults notes.old) (N.faults notes.new)
         → result ≢ Status.NoMemory
         → (result ≡ Status.Done) × ((response : List ℕ) × (K.taken out.new ≡ grown (K.taken out.old) response) × RespondsBack script witness response)) }
 
@@ -114,7 +114,7 @@ pub fn run<F: Shelf, K: Sink, N: Sink>(
     // translation of the model, unless the script is too long.
     ensures routes { IfSome (F.files shelf.old) (λ files. (model bytes : List ℕ) (source : PlainSource)
         → command_of (map string_bytes words.now.items) ≡ Some (Command.MoxiToBtor model) → Accepts bytes source → file_at files model ≡ Some (moxi_text source) → length (moxi_text source) ≤ most_script_bytes
-        → ¬ Rose (F.faults shelf.old) (F.faults shelf.new) → ¬ Rose (K.faults out.old) (K.faults out.new) → ¬ Rose (N.faults notes.old) (N.faults notes.new)
+        → ¬ HasNewFault (F.faults shelf.old) (F.faults shelf.new) → ¬ HasNewFault (K.faults out.old) (K.faults out.new) → ¬ HasNewFault (N.faults notes.old) (N.faults notes.new)
         → result ≢ Status.NoMemory
         → (result ≡ Status.Done) × (K.taken out.new ≡ grown (K.taken out.old) (btor_text source))) }
 
@@ -123,7 +123,7 @@ pub fn run<F: Shelf, K: Sink, N: Sink>(
     // frames 0 to k for the same numbers k.
     ensures returns { IfSome (F.files shelf.old) (λ files. (model bytes : List ℕ) (lines : List Line) (script : PlainScript)
         → command_of (map string_bytes words.now.items) ≡ Some (Command.MoxiToBtor model) → SpellsLines bytes lines → file_at files model ≡ Some (script_text lines) → IsInstantiated (script_text lines) script
-        → ¬ Rose (F.faults shelf.old) (F.faults shelf.new) → ¬ Rose (K.faults out.old) (K.faults out.new) → ¬ Rose (N.faults notes.old) (N.faults notes.new)
+        → ¬ HasNewFault (F.faults shelf.old) (F.faults shelf.new) → ¬ HasNewFault (K.faults out.old) (K.faults out.new) → ¬ HasNewFault (N.faults notes.old) (N.faults notes.new)
         → result ≢ Status.NoMemory
         → (result ≡ Status.Done) × ((text : List ℕ) × (K.taken out.new ≡ grown (K.taken out.old) text) × KeepsFrames lines text)) }
 
@@ -157,21 +157,21 @@ pub fn run<F: Shelf, K: Sink, N: Sink>(
     ensures no_text { command_of (map string_bytes words.now.items) ≡ None → K.taken out.new ≡ K.taken out.old }
 
     // Each fault has its cause.
-    ensures read_fault { result ≡ Status.ReadFault → Rose (F.faults shelf.old) (F.faults shelf.new) ⊎ IsAbsent (F.files shelf.old) (command_of (map string_bytes words.now.items)) }
-    ensures write_fault { result ≡ Status.WriteFault → Rose (K.faults out.old) (K.faults out.new) ⊎ Rose (N.faults notes.old) (N.faults notes.new) }
+    ensures read_fault { result ≡ Status.ReadFault → HasNewFault (F.faults shelf.old) (F.faults shelf.new) ⊎ IsAbsent (F.files shelf.old) (command_of (map string_bytes words.now.items)) }
+    ensures write_fault { result ≡ Status.WriteFault → HasNewFault (K.faults out.old) (K.faults out.new) ⊎ HasNewFault (N.faults notes.old) (N.faults notes.new) }
 
     // `notes` took the line of the status, and nothing where the status is `Done`.
     ensures noted { result ≢ Status.WriteFault → (line : List ℕ)
-        × IsLineOf (F.files shelf.old) (command_of (map string_bytes words.now.items)) (Rose (F.faults shelf.old) (F.faults shelf.new)) result line
+        × IsLineOf (F.files shelf.old) (command_of (map string_bytes words.now.items)) (HasNewFault (F.faults shelf.old) (F.faults shelf.new)) result line
         × (N.taken notes.new ≡ grown (N.taken notes.old) line) }
     ensures silent { result ≡ Status.Done → N.taken notes.new ≡ N.taken notes.old }
 
     // Either `out` failed, and `notes` took the line that says so, or failed too and took a prefix of that line. Or
     // `notes` failed and took a prefix of the line of another status, and `out` is unchanged.
     ensures fault_noted { result ≡ Status.WriteFault
-        → (Rose (K.faults out.old) (K.faults out.new) × Took (N.taken notes.old) (N.taken notes.new) (N.faults notes.old) (N.faults notes.new) write_fault_line)
-        ⊎ (Rose (N.faults notes.old) (N.faults notes.new) × (K.taken out.new ≡ K.taken out.old)
-        × IsCutLine (F.files shelf.old) (command_of (map string_bytes words.now.items)) (Rose (F.faults shelf.old) (F.faults shelf.new)) (N.taken notes.old) (N.taken notes.new)) }
+        → (HasNewFault (K.faults out.old) (K.faults out.new) × WroteLine (N.taken notes.old) (N.taken notes.new) (N.faults notes.old) (N.faults notes.new) write_fault_line)
+        ⊎ (HasNewFault (N.faults notes.old) (N.faults notes.new) × (K.taken out.new ≡ K.taken out.old)
+        × IsCutLine (F.files shelf.old) (command_of (map string_bytes words.now.items)) (HasNewFault (F.faults shelf.old) (F.faults shelf.new)) (N.taken notes.old) (N.taken notes.new)) }
 
     // `out` took nothing, or a prefix of the defined text.
     ensures untouched { result ≢ Status.Done → result ≢ Status.WriteFault → K.taken out.new ≡ K.taken out.old }
@@ -179,15 +179,15 @@ pub fn run<F: Shelf, K: Sink, N: Sink>(
         → outcome_of (map string_bytes words.now.items) files answer → IsPart (K.taken out.old) (K.taken out.new) (text_of answer)) }
 
     // No fault is ignored.
-    ensures shelf_rose { F.faults shelf.old < F.faults shelf.new → (result ≡ Status.ReadFault) ⊎ (result ≡ Status.WriteFault) ⊎ (result ≡ Status.NoMemory) }
+    ensures shelf_faulted { F.faults shelf.old < F.faults shelf.new → (result ≡ Status.ReadFault) ⊎ (result ≡ Status.WriteFault) ⊎ (result ≡ Status.NoMemory) }
     ensures absent { IsAbsent (F.files shelf.old) (command_of (map string_bytes words.now.items)) → (result ≡ Status.ReadFault) ⊎ (result ≡ Status.WriteFault) ⊎ (result ≡ Status.NoMemory) }
-    ensures out_rose { K.faults out.old < K.faults out.new → result ≡ Status.WriteFault }
-    ensures notes_rose { N.faults notes.old < N.faults notes.new → result ≡ Status.WriteFault }
+    ensures out_faulted { K.faults out.old < K.faults out.new → result ≡ Status.WriteFault }
+    ensures notes_faulted { N.faults notes.old < N.faults notes.new → result ≡ Status.WriteFault }
 
     // Where no fault was counted, the status, the text and the line are those of the defined answer, unless out of
     // memory.
     ensures complete { IfSome (F.files shelf.old) (λ files.
-        ¬ Rose (F.faults shelf.old) (F.faults shelf.new) → ¬ Rose (K.faults out.old) (K.faults out.new) → ¬ Rose (N.faults notes.old) (N.faults notes.new)
+        ¬ HasNewFault (F.faults shelf.old) (F.faults shelf.new) → ¬ HasNewFault (K.faults out.old) (K.faults out.new) → ¬ HasNewFault (N.faults notes.old) (N.faults notes.new)
         → (answer : Answer) → outcome_of (map string_bytes words.now.items) files answer
         → ((result ≡ status_of answer) × (K.taken out.new ≡ grown (K.taken out.old) (text_of answer)) × (N.taken notes.new ≡ grown (N.taken notes.old) (line_of answer)))
         ⊎ (result ≡ Status.NoMemory)) }
@@ -222,7 +222,7 @@ fn answer_words<F: Shelf>(
     words: &Vec<String>,
     shelf: &mut F,
 ) -> Result<Answer, NoMemory>
-    ensures answer { IfOk result (MayAnswer (F.files shelf.old) (command_of (map string_bytes words.now.items)) (Rose (F.faults shelf.old) (F.faults shelf.new))) }
+    ensures answer { IfOk result (MayAnswer (F.files shelf.old) (command_of (map string_bytes words.now.items)) (HasNewFault (F.faults shelf.old) (F.faults shelf.new))) }
     ensures generated { (n : ℕ) → command_of (map string_bytes words.now.items) ≡ Some (Command.Generate n) → IfOk result (IsGenerated n) }
     ensures fault { F.faults shelf.old < F.faults shelf.new → IfOk result SaysUnread }
     ensures begun { BeginsFor (F.files shelf.old) (F.begun shelf.old) (F.begun shelf.new) (command_of (map string_bytes words.now.items)) }
@@ -243,7 +243,7 @@ fn answer_read<F: Shelf>(
     shelf: &mut F,
 ) -> Result<Answer, NoMemory>
     requires { IsInRange command.now }
-    ensures answer { IfOk result (MayAnswer (F.files shelf.old) (Some command.now) (Rose (F.faults shelf.old) (F.faults shelf.new))) }
+    ensures answer { IfOk result (MayAnswer (F.files shelf.old) (Some command.now) (HasNewFault (F.faults shelf.old) (F.faults shelf.new))) }
     ensures generated { (n : ℕ) → command.now ≡ Command.Generate n → IfOk result (IsGenerated n) }
     ensures fault { F.faults shelf.old < F.faults shelf.new → IfOk result SaysUnread }
     ensures begun { BeginsFor (F.files shelf.old) (F.begun shelf.old) (F.begun shelf.new) (Some command.now) }

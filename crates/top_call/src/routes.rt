@@ -1,9 +1,9 @@
 // Two routes from a model to its BTOR2 text. The function only cites the laws that it follows from.
 ghost use Rattle.top_call.specs.Routes.{RoutesMeet};
 
-use moxi_script_print::{printed_scripts_are_spelled, whole_scripts_can_be_shown};
+use moxi_script_print::{printed_scripts_are_spelled, valid_scripts_can_be_shown};
 use moxi_term_print::shown_is_read_back;
-use smv_script_laws::{brackets_are_few, names_are_spellable, scripts_are_whole};
+use smv_script_laws::{brackets_are_few, names_are_spellable, scripts_are_valid};
 use witness_lift::models_have_flat_systems;
 
 /// Proves that both routes from an accepted model to BTOR2 give the same text.
@@ -13,10 +13,10 @@ use witness_lift::models_have_flat_systems;
 pub fn routes_meet()
     ensures { RoutesMeet }
 {
-    scripts_are_whole();
+    scripts_are_valid();
     names_are_spellable();
     brackets_are_few();
-    whole_scripts_can_be_shown();
+    valid_scripts_can_be_shown();
     shown_is_read_back();
     printed_scripts_are_spelled();
     models_have_flat_systems();

@@ -1,6 +1,6 @@
 // The commands: how words are parsed to a command, and what each command does.
 ghost use Rattle.std.specs.Prelude.{◌≡◌, ◌<◌, ℕ, map, option_map, string_bytes, IfOk, IfErr, IsErrAnd, Some};
-ghost use Rattle.text_core.specs.Outside.{Rose};
+ghost use Rattle.text_core.specs.Outside.{HasNewFault};
 ghost use Rattle.top_call.specs.Outcome.{BeginsFor, MayAnswer};
 ghost use Rattle.command_core.specs.Reading.{OnNoMemory, StopsUnread, StopsWith};
 ghost use Rattle.generate.specs.Generating.{IsGenerated};
@@ -117,8 +117,8 @@ pub fn answer_command<F: Shelf>(
     shelf: &mut F,
 ) -> Result<Answer, Stop>
     requires range { IsInRange command.now }
-    ensures answer { IfOk result (MayAnswer (F.files shelf.old) (Some command.now) (Rose (F.faults shelf.old) (F.faults shelf.new))) }
-    ensures stop { IfErr result (StopsWith (MayAnswer (F.files shelf.old) (Some command.now) (Rose (F.faults shelf.old) (F.faults shelf.new)))) }
+    ensures answer { IfOk result (MayAnswer (F.files shelf.old) (Some command.now) (HasNewFault (F.faults shelf.old) (F.faults shelf.new))) }
+    ensures stop { IfErr result (StopsWith (MayAnswer (F.files shelf.old) (Some command.now) (HasNewFault (F.faults shelf.old) (F.faults shelf.new)))) }
     // A generated model's answer is defined whatever the shelf exposes.
     ensures generated { (n : ℕ) → command.now ≡ Command.Generate n → IfOk result (IsGenerated n) }
     ensures ungenerated { (n : ℕ) → command.now ≡ Command.Generate n → IfErr result (λ stop. stop ≡ Stop.NoMemory) }

@@ -25,7 +25,7 @@ use Rattle.smv_flatten.specs.FlatModel.{IsRead}
 use Rattle.smv_judge.proofs.StepLaws.{own_label}
 use Rattle.smv_script.specs.Script.{check_of, query_of, script_for}
 use Rattle.smv_script_laws.specs.EnvironmentLaws.{environment_in}
-use Rattle.smv_script_laws.specs.WholeLaws.{ScriptsAreWhole}
+use Rattle.smv_script_laws.specs.ValidLaws.{ScriptsAreValid}
 use Rattle.smv_script_laws.proofs.Queries.{has_queries_law}
 use Rattle.smv_script_laws.proofs.Listed.{Steps, last_breaks, run_long, steps_of_run}
 use Rattle.moxi_terms.specs.declared.data.Datum.{Datum}
@@ -34,7 +34,7 @@ use Rattle.moxi_terms.specs.Sorts.{Fit}
 use Rattle.moxi_terms.specs.Tree.{sorts_of}
 use Rattle.moxi_terms.specs.Value.{Values, at}
 use Rattle.moxi_scripts.specs.Behaviour.{Trace}
-use Rattle.moxi_scripts.specs.Whole.{IsWholeQuery, check_variables}
+use Rattle.moxi_scripts.specs.Valid.{IsValidQuery, check_variables}
 use Rattle.moxi_scripts.specs.laws.WholeParts.{all_at}
 use Rattle.moxi_flat.specs.FlatLaws.{TracesHaveFlatTraces}
 use Rattle.moxi_flat.specs.FlatMeeting.{MeetsFlat}
@@ -141,7 +141,7 @@ module _ (source : PlainSource) (needed : ℕ) (read : IsRead source) (accepted 
     pub query_there : j < length (model_system source).queries
     query_there = subst (λ (n : ℕ). j < n) (sym (has_queries_law source).counted) (broken_there source (states k) j broken)
 
-    pub meets_query : ScriptsAreWhole → TracesHaveFlatTraces → (lines : List Line) → IsLaidOut (model_system source) lines → MeetsQueryOf (model_system source) j (steps_in source run.states run.labels)
+    pub meets_query : ScriptsAreValid → TracesHaveFlatTraces → (lines : List Line) → IsLaidOut (model_system source) lines → MeetsQueryOf (model_system source) j (steps_in source run.states run.labels)
     meets_query whole flat lines laid =
         let f = model_system source in
         let s = script_for source in
@@ -155,12 +155,12 @@ module _ (source : PlainSource) (needed : ℕ) (read : IsRead source) (accepted 
               let inside : v < length f.variables = omega (arith, slice_get_within (sorts_of f.variables) v u h, sorts_long f.variables) in
               x.extends.each i v l (omega (arith, inside, variables_long)) ∙ same_value i v l inside;
         } in a in
-        let w : IsWholeQuery (length f.assumptions) (length f.currents) (length f.reachables) q = all_at (IsWholeQuery (length f.assumptions) (length f.currents) (length f.reachables)) f.queries j q laid.sorted.queries g in
+        let w : IsValidQuery (length f.assumptions) (length f.currents) (length f.reachables) q = all_at (IsValidQuery (length f.assumptions) (length f.currents) (length f.reachables)) f.queries j q laid.sorted.queries g in
         let m : MeetsFlat f q k (trace_of envs) = meets_same f laid.sorted k x.flat (trace_of envs) agree q w x.meets in
         let last : k ≡ length envs - 1 = omega (arith, sized) in
         subst (λ o. IsSomeAnd o (λ z. MeetsFlat f z (length envs - 1) (trace_of envs))) (sym g) (subst (λ n. MeetsFlat f q n (trace_of envs)) last m)
 
-pub lowered_are_accepted_law : YesIsRun → ScriptsAreWhole → TracesHaveFlatTraces → LoweredAreWitnesses → LoweredAreJudged → LoweredAreAccepted
+pub lowered_are_accepted_law : YesIsRun → ScriptsAreValid → TracesHaveFlatTraces → LoweredAreWitnesses → LoweredAreJudged → LoweredAreAccepted
 lowered_are_accepted_law runs whole flat witnesses judges source needed read accepted j run verdict lines laid =
     let f = model_system source in
     let envs = steps_in source run.states run.labels in

@@ -19,7 +19,7 @@ use Rattle.smv_meaning.specs.Verdicts.{YesIsRun}
 use Rattle.smv_meaning.specs.laws.Booleans.{absurd_bool, both_true}
 use Rattle.smv_laws.proofs.SafeExpressions.{accepted_is_checked_law}
 use Rattle.smv_accepted.specs.NameLaws.{item_names}
-use Rattle.smv_accepted.proofs.ItemNames.{names_stand_once_law}
+use Rattle.smv_accepted.proofs.ItemNames.{names_are_distinct_law}
 use Rattle.smv_accepted.proofs.Literals.{words_fit_law}
 use Rattle.smv_items.specs.declared.items.ItemKind.{ItemKind}
 use Rattle.smv_items.specs.declared.items.ItemKind.TheVariants as kind
@@ -40,7 +40,7 @@ use Rattle.smv_script.specs.Script.{check_of, coding_of, place_of_item}
 use Rattle.smv_script_laws.specs.Decoding.{decoded_from, decoded_item, decoded_label, decoded_state, decoded_steps, is_of_label, is_of_state}
 use Rattle.smv_script_laws.specs.EnvironmentLaws.{environment_in}
 use Rattle.smv_script_laws.specs.RunLaws.{decoded_run}
-use Rattle.smv_script_laws.specs.TermLaws.{ValuesComeBack}
+use Rattle.smv_script_laws.specs.TermLaws.{ValuesRoundTrip}
 use Rattle.smv_script_laws.proofs.KnownEnvironments.{row_kind}
 use Rattle.smv_script_laws.proofs.Listed.{Steps, steps_of_run}
 use Rattle.smv_script_laws.proofs.Models.{Model, item_typed, model, origin_at}
@@ -48,12 +48,12 @@ use Rattle.smv_script_laws.proofs.Places.{has_place_law}
 use Rattle.smv_script_laws.proofs.Steps.{Fit as FitsRow}
 use Rattle.moxi_terms.specs.declared.data.Datum.{Datum}
 use Rattle.moxi_terms.specs.Value.{Values, at}
-use Rattle.moxi_scripts.specs.Whole.{check_variables}
+use Rattle.moxi_scripts.specs.Valid.{check_variables}
 use Rattle.moxi_lift.specs.Laws.{trace_of}
 use Rattle.moxi_lift.proofs.Upto.{at_upto}
 use Rattle.moxi_lower.specs.Laws.{LoweredAreLifted}
 use Rattle.witness_lift.specs.LineLaws.{model_system}
-use Rattle.trace_lower.specs.Laws.{LoweredComeBack, declared_by}
+use Rattle.trace_lower.specs.Laws.{LoweredRoundTrip, declared_by}
 use Rattle.trace_lower.specs.Lowered.{steps_in}
 use Rattle.trace_lower.proofs.Accepted.{last_fits, run_steps, variables_long}
 use Rattle.trace_lower.proofs.Meeting.{HasFits, environment_there}
@@ -114,7 +114,7 @@ abbrev given_each : Valuation → List PlainFlatItem → List Given
 given_each values [] = []
 given_each values (m ∷ ms) = record { name = m.name; value = values m.name } ∷ given_each values ms
 
--- what stands in front gives nothing for names that differ from its own
+-- what is in front gives nothing for names that differ from its own
 passed_over : (g : Given) (gs : List Given) (ms : List PlainFlatItem) → AllByRecursion (λ (x : PlainFlatItem). bytes_eq g.name x.name ≡ false) ms → given_each (given (g ∷ gs)) ms ≡ given_each (given gs) ms
 passed_over g gs [] a = refl
 passed_over g gs (m ∷ ms) a =
@@ -172,7 +172,7 @@ labels_picked kind.Actual = refl
 
 -- ---- a model
 
-module _ (back : ValuesComeBack) (source : PlainSource) (needed : ℕ) (read : IsRead source) (accepted : IsAccepted source needed) where
+module _ (back : ValuesRoundTrip) (source : PlainSource) (needed : ℕ) (read : IsRead source) (accepted : IsAccepted source needed) where
   abbrev width : ℕ
   width = width_of (flat_smv source)
 
@@ -190,7 +190,7 @@ module _ (back : ValuesComeBack) (source : PlainSource) (needed : ℕ) (read : I
 
   items_differ : Differ flat.items
   items_differ = all_differ (item_names (instances_of source)) flat.items 0
-      (λ n x h. names_stand_once_law source read.end read.text read.tokens read.lexed read.spelled needed accepted n x.name (name_at (origins_of (instances_of source)) n x h) ∙ ap Some (omega arith))
+      (λ n x h. names_are_distinct_law source read.end read.text read.tokens read.lexed read.spelled needed accepted n x.name (name_at (origins_of (instances_of source)) n x h) ∙ ap Some (omega arith))
 
   module _ (state label : Valuation) (fits : HasFits source state label) where
     abbrev env : Values
@@ -347,7 +347,7 @@ module _ (back : ValuesComeBack) (source : PlainSource) (needed : ℕ) (read : I
 
 -- ---- the law
 
-pub lowered_come_back_law : YesIsRun → LoweredAreLifted → ValuesComeBack → LoweredComeBack
+pub lowered_come_back_law : YesIsRun → LoweredAreLifted → ValuesRoundTrip → LoweredRoundTrip
 lowered_come_back_law runs lifts back source needed read accepted j run stated verdict =
     let is = ((runs source j (map given run.states) (map given run.labels)).0 verdict).0 in
     let envs = steps_in source run.states run.labels in

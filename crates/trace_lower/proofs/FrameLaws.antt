@@ -23,7 +23,7 @@ use Rattle.smv_script_laws.specs.Decoding.{datum_from}
 use Rattle.smv_script_laws.specs.EnvironmentLaws.{environment_in}
 use Rattle.moxi_terms.specs.declared.term.Enumeration.{Enumeration}
 use Rattle.moxi_terms.specs.Value.{Values, at}
-use Rattle.moxi_scripts.specs.Whole.{check_variables}
+use Rattle.moxi_scripts.specs.Valid.{check_variables}
 use Rattle.moxi_lines.specs.Codes.{code_of}
 use Rattle.moxi_lift.specs.Lifted.{values_upto}
 use Rattle.moxi_lift.proofs.Upto.{at_upto}

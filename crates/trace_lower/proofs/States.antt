@@ -17,7 +17,7 @@ use Rattle.smv_judge.specs.Models.{IsFlatOf}
 use Rattle.smv_judge.specs.Taken.{AreRowsOf, labels_left, next_or}
 use Rattle.smv_script_laws.proofs.Weights.{counts_by_weight}
 use Rattle.smv_script.specs.Script.{check_of}
-use Rattle.moxi_scripts.specs.Whole.{check_variables}
+use Rattle.moxi_scripts.specs.Valid.{check_variables}
 use Rattle.witness_lift.specs.Breaking.{IsFormOf}
 use Rattle.witness_lift.specs.LineLaws.{model_system}
 use Rattle.witness_lift.proofs.Models.{weight_fits}

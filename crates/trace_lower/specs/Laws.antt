@@ -19,7 +19,7 @@ use Rattle.moxi_lift.specs.Lifted.{lifted}
 use Rattle.witness_lift.specs.LineLaws.{model_system}
 use Rattle.trace_lower.specs.Lowered.{lowered, verdict_on}
 
--- It is a witness for the lines, the judge accepts it, and its statements stand in rising order.
+-- It is a witness for the lines, the judge accepts it, and its statements are in rising order.
 pub record IsAcceptedBy (lines : List Line) (w : Witness) : Type 0 where
   pub witness : IsWitness (sizes_of lines) w
   pub accepted : judged_btor lines w Yes
@@ -41,6 +41,6 @@ abbrev pub lifted_run : PlainSource → Witness → Run
 lifted_run source w = decoded_run source (trace_of (lifted (model_system source) w)) (length (lifted (model_system source) w) - 1)
 
 -- the run comes back from it, where it states each variable in flat order
-abbrev pub LoweredComeBack : Type 0
-LoweredComeBack = (source : PlainSource) (needed : ℕ) → IsRead source → IsAccepted source needed → (j : ℕ) (run : Run) → IsStatedRun (declared_by source) run → verdict_on source j run ≡ Yes
+abbrev pub LoweredRoundTrip : Type 0
+LoweredRoundTrip = (source : PlainSource) (needed : ℕ) → IsRead source → IsAccepted source needed → (j : ℕ) (run : Run) → IsStatedRun (declared_by source) run → verdict_on source j run ≡ Yes
     → lifted_run source (lowered source j run) ≡ run

@@ -1,10 +1,10 @@
 // Laws of lowered runs. These functions only cite other laws.
-ghost use Rattle.trace_lower.specs.Laws.{LoweredAreAccepted, LoweredComeBack};
+ghost use Rattle.trace_lower.specs.Laws.{LoweredAreAccepted, LoweredRoundTrip};
 
 use moxi_flat::traces_have_flat_traces;
 use moxi_lower::{lowered_are_judged, lowered_are_lifted, lowered_are_witnesses};
 use smv_laws::yes_is_run;
-use smv_script_laws::{scripts_are_whole, values_come_back};
+use smv_script_laws::{scripts_are_valid, values_come_back};
 
 /// Proves that the judge accepts the witness of a run that breaks an invariant.
 ///
@@ -13,7 +13,7 @@ pub fn lowered_are_accepted()
     ensures { LoweredAreAccepted }
 {
     yes_is_run();
-    scripts_are_whole();
+    scripts_are_valid();
     traces_have_flat_traces();
     lowered_are_witnesses();
     lowered_are_judged();
@@ -21,7 +21,7 @@ pub fn lowered_are_accepted()
 
 /// Proves that this witness is lifted to the same run.
 pub fn lowered_come_back()
-    ensures { LoweredComeBack }
+    ensures { LoweredRoundTrip }
 {
     yes_is_run();
     lowered_are_lifted();

@@ -11,7 +11,7 @@ use Rattle.smv_flatten.specs.FlatModel.{FlatModel}
 use Rattle.smv_script.specs.Script.{coding_of, query_of, script_for, script_of}
 use Rattle.smv_script_laws.specs.Decoding.{run_of}
 use Rattle.smv_script_laws.specs.RunLaws.{HasQueries, TracesAreRuns, decoded_run}
-use Rattle.smv_script_laws.specs.WholeLaws.{ScriptsAreWhole}
+use Rattle.smv_script_laws.specs.ValidLaws.{ScriptsAreValid}
 use Rattle.moxi_terms.specs.declared.data.Datum.{Datum}
 use Rattle.moxi_scripts.specs.declared.script.Query.{Query}
 use Rattle.moxi_flat.specs.FlatMeeting.{MeetsFlat}
@@ -32,7 +32,7 @@ there P (x ∷ xs) (suc j) h = let l = there P xs j h in omega (arith, l)
 at_some : {X : Type 0} (P : X → Type 0) (o : Option X) (x : X) → o ≡ Some x → IsSomeAnd o P → P x
 at_some P o x e h = subst (λ o. IsSomeAnd o P) e h
 
-pub breaks : ScriptsAreWhole → TracesHaveFlatTraces → TracesAreRuns → ((source : PlainSource) → HasQueries source) → TracesBreakInvariants
+pub breaks : ScriptsAreValid → TracesHaveFlatTraces → TracesAreRuns → ((source : PlainSource) → HasQueries source) → TracesBreakInvariants
 breaks whole flat runs queries source needed read accepted j envs h =
     let k = length envs - 1 in
     let s = script_for source in

@@ -11,7 +11,7 @@ use Rattle.btor_witness.specs.Printing.{IsBelow}
 use Rattle.smv_flat.specs.FlatForms.{PlainFlat, flat_smv}
 use Rattle.smv_flatten.specs.FlatModel.{FlatModel, IsOfModel, flat_plain}
 use Rattle.smv_script.specs.Script.{script_for, script_of, symbol_sort, system_of}
-use Rattle.smv_script_laws.specs.WholeLaws.{ScriptsAreWhole}
+use Rattle.smv_script_laws.specs.ValidLaws.{ScriptsAreValid}
 use Rattle.smv_to_moxi.specs.Assembling.{script_with}
 use Rattle.smv_to_moxi.specs.Lifting.{IsTraceOf}
 use Rattle.moxi_terms.specs.declared.data.Datum.{Datum}
@@ -21,7 +21,7 @@ use Rattle.moxi_terms.specs.Sorts.{Fit}
 use Rattle.moxi_terms.specs.Tree.{sorts_of}
 use Rattle.moxi_terms.specs.View.{ScopeState}
 use Rattle.moxi_scripts.specs.Script.{PlainCheck, PlainScript, PlainSystem, variables_in}
-use Rattle.moxi_scripts.specs.Whole.{IsWhole}
+use Rattle.moxi_scripts.specs.Valid.{IsValid}
 use Rattle.moxi_flat.specs.FlatSystem.{PlainFlatSystem, flat_of}
 use Rattle.moxi_flat.specs.Limits.{flat_refusal}
 use Rattle.moxi_instantiate.specs.Instances.{IsSingle, single_script}
@@ -44,9 +44,9 @@ of_model P f m h =
 not_refused_of : (f : FlatModel) → ModelsHaveFlatSystems → IsOfModel f → flat_refusal (script_of (flat_plain f) f.width) ≡ None
 not_refused_of f law m = of_model (λ s. flat_refusal s ≡ None) f m (law m.source m.read.end m.read.text m.read.tokens m.read.lexed m.read.spelled m.needed m.accepted m.read.low)
 
-pub single_of : (f : FlatModel) → ScriptsAreWhole → ModelsHaveFlatSystems → ∥ IsOfModel f ∥₁ → ∥ IsSingle (script_of (flat_plain f) f.width) ∥₁
+pub single_of : (f : FlatModel) → ScriptsAreValid → ModelsHaveFlatSystems → ∥ IsOfModel f ∥₁ → ∥ IsSingle (script_of (flat_plain f) f.width) ∥₁
 single_of f whole law model = ∥∥₁_map model (λ m. record {
-  whole = of_model IsWhole f m (whole m.source m.read.end m.read.text m.read.tokens m.read.lexed m.read.spelled m.needed m.accepted);
+  whole = of_model IsValid f m (whole m.source m.read.end m.read.text m.read.tokens m.read.lexed m.read.spelled m.needed m.accepted);
   accepted = not_refused_of f law m;
   alone = refl;
 })

@@ -12,7 +12,7 @@ use Rattle.smv_script.specs.Script.{script_for}
 use Rattle.btor_tree.specs.declared.lines.Line.{Line}
 use Rattle.btor_tree.specs.Fits.{greatest_id, is_bad, operands}
 use Rattle.btor_tree.specs.Printing.{printed}
-use Rattle.btor_tree.specs.Sharing.{HasNoTwoAlike}
+use Rattle.btor_tree.specs.Sharing.{HasNoDuplicates}
 use Rattle.btor_tree.specs.Texts.{SpellsLines}
 use Rattle.moxi_flat.specs.FlatSystem.{PlainFlatSystem, flat_of}
 use Rattle.moxi_flat.specs.Limits.{flat_refusal}
@@ -64,7 +64,7 @@ abbrev pub ModelLinesAreCounted : Type 0
 ModelLinesAreCounted = OfAccepted (λ source. length (model_lines source) ≤ 16 * weight_of source + 200)
 
 abbrev pub ModelLinesAreShared : Type 0
-ModelLinesAreShared = OfAccepted (λ source. HasNoTwoAlike (model_lines source))
+ModelLinesAreShared = OfAccepted (λ source. HasNoDuplicates (model_lines source))
 
 abbrev pub ModelLinesAreSpelled : Type 0
 ModelLinesAreSpelled = OfAccepted (λ source. SpellsOnly (printed (model_lines source)) (model_lines source))

@@ -2,7 +2,7 @@
 ghost use Rattle.witness_lift.specs.Breaking.{TracesBreakInvariants};
 
 use moxi_flat::traces_have_flat_traces;
-use smv_script_laws::{runs_are_traces, scripts_are_whole};
+use smv_script_laws::{runs_are_traces, scripts_are_valid};
 
 /// Proves that a trace that meets the query of an invariant at its last step encodes a run whose last state breaks the
 /// invariant.
@@ -11,7 +11,7 @@ use smv_script_laws::{runs_are_traces, scripts_are_whole};
 pub fn traces_break_invariants()
     ensures { TracesBreakInvariants }
 {
-    scripts_are_whole();
+    scripts_are_valid();
     traces_have_flat_traces();
     runs_are_traces();
 }

@@ -5,10 +5,10 @@ use btor_tree::{one_reading, printed_spells};
 use moxi_flat::{flat_systems_are_sorted, single_systems_are_flat, traces_have_flat_traces};
 use moxi_layout::{
     bads_are_queries, flat_sizes_are_script_sizes, lines_are_counted, lines_lay_out,
-    lines_stay_few, no_two_lines_alike, traces_have_frames,
+    lines_stay_few, no_duplicate_lines, traces_have_frames,
 };
 use smv_script_laws::{
-    counts_are_weighed, runs_are_traces, scripts_are_small, scripts_are_whole, sizes_are_weighed,
+    counts_are_weighed, runs_are_traces, scripts_are_small, scripts_are_valid, sizes_are_weighed,
     symbols_are_weighed,
 };
 
@@ -17,7 +17,7 @@ use smv_script_laws::{
 pub fn models_have_flat_systems()
     ensures { ModelsHaveFlatSystems }
 {
-    scripts_are_whole();
+    scripts_are_valid();
     scripts_are_small();
     single_systems_are_flat();
 }
@@ -27,7 +27,7 @@ pub fn models_have_flat_systems()
 pub fn model_lines_are_laid_out()
     ensures { ModelLinesAreLaidOut }
 {
-    scripts_are_whole();
+    scripts_are_valid();
     scripts_are_small();
     symbols_are_weighed();
     flat_systems_are_sorted();
@@ -46,7 +46,7 @@ pub fn models_have_frames()
     ensures { ModelsHaveFrames }
 {
     model_lines_are_laid_out();
-    scripts_are_whole();
+    scripts_are_valid();
     runs_are_traces();
     traces_have_flat_traces();
     traces_have_frames();
@@ -58,7 +58,7 @@ pub fn model_lines_are_counted()
     ensures { ModelLinesAreCounted }
 {
     model_lines_are_laid_out();
-    scripts_are_whole();
+    scripts_are_valid();
     flat_sizes_are_script_sizes();
     single_systems_are_flat();
     sizes_are_weighed();
@@ -70,9 +70,9 @@ pub fn model_lines_are_counted()
 pub fn model_lines_are_shared()
     ensures { ModelLinesAreShared }
 {
-    scripts_are_whole();
+    scripts_are_valid();
     flat_systems_are_sorted();
-    no_two_lines_alike();
+    no_duplicate_lines();
 }
 
 /// Proves that the printed lines of an accepted model spell these lines, and no others.

@@ -15,7 +15,7 @@ use moxi_scripts::{Check, System};
 use moxi_terms::{Scope, Variable, Variables};
 use moxi_to_btor::to_btor;
 use smv_flatten::Flat;
-use smv_script_laws::scripts_are_whole;
+use smv_script_laws::scripts_are_valid;
 use smv_to_moxi::{SingleScript, to_single};
 use std::alloc::Global;
 use text_core::NoMemory;
@@ -78,7 +78,7 @@ fn is_single(flat: &Flat)
     ensures { ∥ IsSingle (script_of (flat_plain flat.now) flat.now.width) ∥₁ }
 {
     flat.is_of_model();
-    scripts_are_whole();
+    scripts_are_valid();
     models_have_flat_systems();
 }
 

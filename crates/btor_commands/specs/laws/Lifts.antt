@@ -21,5 +21,5 @@ says lines lifted text a (inl x) = subst SaysRead (sym x.2.2) (lift_says lifted 
 says lines lifted text a (inr r) = subst SaysRead (sym r.2) tt
 
 -- a witness of which the judge says no is answered so
-pub denied : (lines : List Line) (lifted : Witness → List ℕ) (w : Witness) (step : ℕ) (clause : Clause) → judged_btor lines w (No step clause) → IsLift lines lifted w (answer.No step clause)
-denied lines lifted w step clause judged = (No step clause, judged, refl)
+pub rejected : (lines : List Line) (lifted : Witness → List ℕ) (w : Witness) (step : ℕ) (clause : Clause) → judged_btor lines w (No step clause) → IsLift lines lifted w (answer.No step clause)
+rejected lines lifted w step clause judged = (No step clause, judged, refl)

@@ -1,4 +1,4 @@
--- What stands at a place of a list.
+-- What is at a place of a list.
 use Rattle.std.proofs.Common.{◌≡◌, ℕ, zero, suc, ◌+◌, ◌<◌, List, [], ◌∷◌, ◌++◌, length, Some, refl, sym, ap, arith}
 use Rattle.std.specs.Prelude.{slice_get, slice_index_or}
 

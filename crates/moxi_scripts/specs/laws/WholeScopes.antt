@@ -19,7 +19,7 @@ use Rattle.moxi_terms.specs.Sorts.{IsConstant, IsOf, IsSort}
 use Rattle.moxi_terms.specs.Tree.{Tree, constant, variable, bound, apply, binding, call, Trees, no_trees, tree, PlainFunction, sorts_of}
 use Rattle.moxi_terms.specs.View.{ScopeState}
 use Rattle.moxi_terms.specs.Words.{is_operator}
-use Rattle.moxi_scripts.specs.Whole.{AreNames, is_fixed_sort, is_fixed_term}
+use Rattle.moxi_scripts.specs.Valid.{AreNames, is_fixed_sort, is_fixed_term}
 use Rattle.moxi_scripts.specs.laws.ListLaws.{get_left}
 use Rattle.moxi_scripts.specs.laws.WholeNames.{Absent, absent_append, absent_is, absent_parts, absent_swap, fresh_between, fresh_more, fresh_end, not_true, or_both, or_parts}
 use Rattle.moxi_scripts.specs.laws.WholeParts.{all_append, all_of, all_parts, get_below, map_append}

@@ -8,7 +8,7 @@ use Rattle.smv_text.specs.Tree.{Trees, no_trees, tree, PlainDefinition, PlainEle
 use Rattle.smv_meaning.specs.Instances.{Instance}
 use Rattle.smv_meaning.specs.Names.{parent_of}
 use Rattle.smv_meaning.specs.Phases.{over_instances}
-use Rattle.smv_items.specs.declared.origins.Origin.{Origin as KeptOrigin}
+use Rattle.smv_items.specs.declared.origins.Origin.{Origin as StoredOrigin}
 use Rattle.smv_items.specs.FlatItems.{Content, Origin, with_content, actual_content, actual_items, domain_content, variable_item, definition_item, element_items, items_here}
 use Rattle.smv_items.specs.FlatOrigins.{origin_plain, own_count}
 
@@ -90,17 +90,17 @@ count_here i at rest =
     let later = count_later i (i + 1) (omega arith) rest in
     omega (arith, own, later)
 
-counted : (i n : ℕ) (at : Instance) (rest : List Instance) (xs : List KeptOrigin) → n ≡ own_count i (map origin_plain xs) → map origin_plain xs ≡ over_instances items_here i (at ∷ rest) → n ≡ length (items_here i at)
+counted : (i n : ℕ) (at : Instance) (rest : List Instance) (xs : List StoredOrigin) → n ≡ own_count i (map origin_plain xs) → map origin_plain xs ≡ over_instances items_here i (at ∷ rest) → n ≡ length (items_here i at)
 counted i n at rest xs e h = e ∙ ap (own_count i) h ∙ count_here i at rest
 
 -- the items of the first of some instances, and those of the others
-pub own_front : (i n : ℕ) (at : Instance) (rest : List Instance) (xs : List KeptOrigin) → n ≡ own_count i (map origin_plain xs) → map origin_plain xs ≡ over_instances items_here i (at ∷ rest)
+pub own_front : (i n : ℕ) (at : Instance) (rest : List Instance) (xs : List StoredOrigin) → n ≡ own_count i (map origin_plain xs) → map origin_plain xs ≡ over_instances items_here i (at ∷ rest)
     → map origin_plain (take n xs) ≡ items_here i at
 own_front i n at rest xs e h =
     sym (take-map origin_plain n xs) ∙ ap (take n) h ∙ ap (λ k. take k (items_here i at ++ over_instances items_here (i + 1) rest)) (counted i n at rest xs e h)
     ∙ take-append_seam (items_here i at) (over_instances items_here (i + 1) rest)
 
-pub own_passed : (i n : ℕ) (at : Instance) (rest : List Instance) (xs : List KeptOrigin) → n ≡ own_count i (map origin_plain xs) → map origin_plain xs ≡ over_instances items_here i (at ∷ rest)
+pub own_passed : (i n : ℕ) (at : Instance) (rest : List Instance) (xs : List StoredOrigin) → n ≡ own_count i (map origin_plain xs) → map origin_plain xs ≡ over_instances items_here i (at ∷ rest)
     → map origin_plain (drop n xs) ≡ over_instances items_here (i + 1) rest
 own_passed i n at rest xs e h =
     sym (drop-map origin_plain n xs) ∙ ap (drop n) h ∙ ap (λ k. drop k (items_here i at ++ over_instances items_here (i + 1) rest)) (counted i n at rest xs e h)

@@ -13,7 +13,7 @@ use Rattle.smv_text.specs.Sources.{SpellsModules, IsDeadAt}
 use Rattle.smv_parse.specs.Parsing.{refusal, dead_refusal, IsTooHigh, HasDead, IsRefused, too_high, dead}
 use Rattle.smv_grammar.proofs.Models.{one_list}
 
--- no dead token stands before another
+-- no dead token is before another
 none_before : (xs : List Token) (i j : ℕ) → IsDeadAt xs i → IsDeadAt xs j → i < j → ⊥
 none_before xs i j a b lt =
     let up : suc i + (j - suc i) ≡ j = omega (arith, lt) in

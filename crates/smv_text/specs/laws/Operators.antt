@@ -77,7 +77,7 @@ unfolding all_classes
 class_numbered classes.Implications = refl
 class_numbered _ = refl
 
--- classes are told apart by their numbers
+-- classes are distinguished by their numbers
 pub same_class : (c d : OperatorClass) → nat_eq (class_number c) (class_number d) ≡ true → c ≡ d
 same_class c d e = sym (class_numbered c) ∙ ap (λ n. get_or all_classes n classes.Sums) (eqb-true (class_number c) (class_number d) e) ∙ class_numbered d
 

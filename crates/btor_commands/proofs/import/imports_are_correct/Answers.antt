@@ -7,7 +7,7 @@ use Rattle.btor_tree.proofs.Resolved.{reads_well_formed}
 use Rattle.btor_import.specs.Script.{import_of}
 use Rattle.moxi_scripts.specs.Script.{PlainScript}
 use Rattle.moxi_scripts.specs.Spelling.{SpellsScript}
-use Rattle.moxi_scripts.specs.Whole.{IsWhole}
+use Rattle.moxi_scripts.specs.Valid.{IsValid}
 use Rattle.moxi_script_print.specs.Again.{ReadsAs, with_place}
 use Rattle.moxi_script_print.specs.NamesOfScripts.{HasSpellableNames}
 use Rattle.moxi_script_print.specs.Printing.{shown_script}
@@ -21,11 +21,11 @@ pub returns : goal.returns
 unfolding script_text
 returns c bytes lines spelled =
     let well : IsWellFormed lines = reads_well_formed spelled empty_well_formed in
-    let whole : IsWhole (import_of lines) = c.scripts_are_whole.ensures lines well in
+    let whole : IsValid (import_of lines) = c.scripts_are_valid.ensures lines well in
     let names : HasSpellableNames (import_of lines) = c.names_are_spellable.ensures lines well in
     let few : shown_depths (shown_script (import_of lines)) ≤ 7 = c.brackets_are_few.ensures lines in
     let shown : SpellsShown (lines_text (shown_script (import_of lines))) (shown_script (import_of lines)) =
-    c.shown_is_read_back.ensures (shown_script (import_of lines)) (c.whole_scripts_can_be_shown.ensures (import_of lines) whole names) (omega (arith, few)) in
+    c.shown_is_read_back.ensures (shown_script (import_of lines)) (c.valid_scripts_can_be_shown.ensures (import_of lines) whole names) (omega (arith, few)) in
     let again : (end : Place) → ReadsAs shown.forms end (import_of lines) = λ end. c.printed_scripts_are_spelled.ensures (import_of lines) shown.forms end whole shown.shown in
     let each : (script : PlainScript) → SpellsText (script_text lines) script → RepresentsLines lines script =
     λ script t.

@@ -1,5 +1,5 @@
 use Rattle.std.proofs.Common.{◌≡◌, ◌≤◌, ◌<◌, ◌-◌, false, length}
-use Rattle.text_core.specs.Outside.{told_file, IsMissing, IsBegun}
+use Rattle.text_core.specs.Outside.{exposed_file, IsMissing, IsBegun}
 use Rattle.btor_judge.specs.Judging.{has_ended}
 use Rattle.btor_commands.specs.Limits.{most_witness_bytes}
 use Rattle.btor_commands.specs.Pieces.{HoldsFront}
@@ -10,7 +10,7 @@ invariant-pieces g l = record {
   room : 0 < length l.buffer;
   within : l.count ≤ most_witness_bytes;
   present : ¬ IsMissing (g.F.Shelf.files l.fn.shelf) l.name;
-  front : HoldsFront (told_file (g.F.Shelf.files l.fn.shelf) l.name) l.nodes l.judge l.count (g.F.Shelf.left l.shelf);
+  front : HoldsFront (exposed_file (g.F.Shelf.files l.fn.shelf) l.name) l.nodes l.judge l.count (g.F.Shelf.left l.shelf);
   going : has_ended l.judge ≡ false;
   files : g.F.Shelf.files l.shelf ≡ g.F.Shelf.files l.fn.shelf;
   begun : IsBegun (g.F.Shelf.files l.fn.shelf) (g.F.Shelf.begun l.shelf) l.name;

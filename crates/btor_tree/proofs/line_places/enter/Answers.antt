@@ -25,28 +25,28 @@ returns-in_ok-take_slot-in-None-clause-entered c =
     set_has a.lines.now a.line.now a.places.now new c.requires.has
     (λ i. c.in_ok-take_slot-in-None.ensures.ok i ∙ ap (λ f. cond (eqb i f) (Some (length a.lines.now)) (get_or a.places.now.slots.items i None)) c.slot_of-slot.ensures.value) refl first
 
-pub returns-then-is_alike-clause-found : goal.returns-then-is_alike-clause-found
-returns-then-is_alike-clause-found c =
+pub returns-then-is_equal_line-clause-found : goal.returns-then-is_equal_line-clause-found
+returns-then-is_equal_line-clause-found c =
     let a = c.args in
     let first : get_or a.places.now.slots.items (slot_of (line_key a.line.now)) None ≡ Some c.in-Some.there =
     ap (λ i. get_or a.places.now.slots.items i None) (sym c.slot_of-slot.ensures.value) ∙ ap (λ xs. get_or xs c.slot_of-slot.result None) (sym c.deref.ensures.value) ∙ sym c.at_slot.ensures ∙ c.in-Some.is in
     let at : slice_get a.lines.now c.in-Some.there ≡ Some c.index-lines-there.result = slice_get_read a.lines.now (length a.lines.now) c.in-Some.there c.index-lines-there.result refl (c.requires.has.there _ _ first) c.index-lines-there.is in
-    slot_found a.lines.now a.line.now a.places.now c.requires.has c.requires.shared c.requires.short c.in-Some.there c.index-lines-there.result first at (sym c.is_alike.ensures ∙ c.if-is_alike.true)
+    slot_found a.lines.now a.line.now a.places.now c.requires.has c.requires.shared c.requires.short c.in-Some.there c.index-lines-there.result first at (sym c.is_equal_line.ensures ∙ c.if-is_equal_line.true)
 
-pub returns-else-is_alike-clause-found : goal.returns-else-is_alike-clause-found
-returns-else-is_alike-clause-found c =
+pub returns-else-is_equal_line-clause-found : goal.returns-else-is_equal_line-clause-found
+returns-else-is_equal_line-clause-found c =
     let a = c.args in
     let first : get_or a.places.now.slots.items (slot_of (line_key a.line.now)) None ≡ Some c.in-Some.there =
     ap (λ i. get_or a.places.now.slots.items i None) (sym c.slot_of-slot.ensures.value) ∙ ap (λ xs. get_or xs c.slot_of-slot.result None) (sym c.deref.ensures.value) ∙ sym c.at_slot.ensures ∙ c.in-Some.is in
     let at : slice_get a.lines.now c.in-Some.there ≡ Some c.index-lines-there.result = slice_get_read a.lines.now (length a.lines.now) c.in-Some.there c.index-lines-there.result refl (c.requires.has.there _ _ first) c.index-lines-there.is in
     let other : get key_cmp a.places.now.others (line_key a.line.now) ≡ standing a.lines.now a.line.now.op a.line.now.sort a.line.now.args =
-    other_found a.lines.now a.line.now a.places.now c.requires.has c.requires.shared c.requires.short c.in-Some.there c.index-lines-there.result first at (sym c.is_alike.ensures ∙ c.if-is_alike.false) in
+    other_found a.lines.now a.line.now a.places.now c.requires.has c.requires.shared c.requires.short c.in-Some.there c.index-lines-there.result first at (sym c.is_equal_line.ensures ∙ c.if-is_equal_line.false) in
     IfOk-weaker c.enter_key.result _ _ (λ found e. e ∙ ap (get key_cmp a.places.now.others) c.line_key.ensures ∙ other) c.enter_key.ensures.found
 
-pub returns-else-is_alike-clause-entered : goal.returns-else-is_alike-clause-entered
-returns-else-is_alike-clause-entered c =
+pub returns-else-is_equal_line-clause-entered : goal.returns-else-is_equal_line-clause-entered
+returns-else-is_equal_line-clause-entered c =
     let a = c.args in
     let new : LinePlaces = record { slots = a.places.now.slots; others = c.enter_key.new.places } in
     let first : get_or a.places.now.slots.items (slot_of (line_key a.line.now)) None ≡ Some c.in-Some.there =
     ap (λ i. get_or a.places.now.slots.items i None) (sym c.slot_of-slot.ensures.value) ∙ ap (λ xs. get_or xs c.slot_of-slot.result None) (sym c.deref.ensures.value) ∙ sym c.at_slot.ensures ∙ c.in-Some.is in
-    map_both a.lines.now a.line.now a.places.now new c.requires.has refl c.in-Some.there first c.enter_key.result c.line_key.result c.requires.shared c.requires.short c.line_key.ensures (returns-else-is_alike-clause-found c) c.enter_key.ensures.entered
+    map_both a.lines.now a.line.now a.places.now new c.requires.has refl c.in-Some.there first c.enter_key.result c.line_key.result c.requires.shared c.requires.short c.line_key.ensures (returns-else-is_equal_line-clause-found c) c.enter_key.ensures.entered

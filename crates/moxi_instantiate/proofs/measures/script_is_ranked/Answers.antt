@@ -10,10 +10,10 @@ returns-clause-ranked c =
     let s = plain_script c.args.script.now in
     ∥∥₁_map c.args.script.now.spelled
     (λ (i : IsSpelled (plain_script c.args.script.now)).
-    ranked_of c.nesting_falls.ensures c.systems_bound_nesting.ensures c.systems_are_over_variables.ensures s (c.spelled_scripts_are_whole.ensures i.forms i.end s i.spelled))
+    ranked_of c.nesting_falls.ensures c.systems_bound_nesting.ensures c.systems_are_over_variables.ensures s (c.spelled_scripts_are_valid.ensures i.forms i.end s i.spelled))
 
 pub returns-clause-there : goal.returns-clause-there
 returns-clause-there c =
     let s = plain_script c.args.script.now in
     lt_held c.args.script.now.check.system (length s.systems)
-    (∥∥₁_map c.args.script.now.spelled (λ (i : IsSpelled (plain_script c.args.script.now)). (c.spelled_scripts_are_whole.ensures i.forms i.end s i.spelled).check.there))
+    (∥∥₁_map c.args.script.now.spelled (λ (i : IsSpelled (plain_script c.args.script.now)). (c.spelled_scripts_are_valid.ensures i.forms i.end s i.spelled).check.there))

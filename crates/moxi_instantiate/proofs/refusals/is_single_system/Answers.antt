@@ -8,5 +8,5 @@ returns-clause-single c = tested c.args.script.now.systems c.args.script.now.che
 
 pub returns-clause-names : goal.returns-clause-names
 returns-clause-names c e =
-    names_apart c.single_systems_are_flat.ensures (plain_script c.args.script.now) c.script_is_whole.ensures
+    names_apart c.single_systems_are_flat.ensures (plain_script c.args.script.now) c.script_is_valid.ensures
     (sym (tested c.args.script.now.systems c.args.script.now.check.system c.len.result c.at-checked.result.now c.script_is_ranked.ensures.there c.at-checked.ensures c.len.ensures) ∙ e)

@@ -31,7 +31,7 @@ returns-clause-verdict c =
     let q = query_at c.args.script.now.check.queries c.args.q in
     let envs = c.args.trace.now in
     let query = found_at c.args.script.now.check.queries c.args.q c.at-query.result.now no_query c.requires.query c.at-query.ensures in
-    let whole = ∥∥₁_map c.args.script.now.spelled (λ (i : IsSpelled (plain_script c.args.script.now)). c.spelled_scripts_are_whole.ensures i.forms i.end s i.spelled) in
+    let whole = ∥∥₁_map c.args.script.now.spelled (λ (i : IsSpelled (plain_script c.args.script.now)). c.spelled_scripts_are_valid.ensures i.forms i.end s i.spelled) in
     subst (λ w. IfOk c.judge_steps.result (λ v. v ≡ w))
     (verdict_is c.args.system.now (flat_of s) c.at-query.result.now q c.as_slice.result.now envs c.requires.system query c.as_slice.ensures c.requires.trace.some
     ∙ parts_give_verdict c.hidden_values_are_written.ensures c.parts_are_tested.ensures c.steps_are_tested_by_system_and_query.ensures.first s whole q (length envs - 1) (trace_of envs))

@@ -7,10 +7,10 @@ use Rattle.moxi_responses.proofs.declared.names_are_own.Goals as goal
 
 pub returns-clause-own : goal.returns-clause-own
 returns-clause-own c =
-    own_names c.args.script.now c.spelled_scripts_are_whole.ensures (subst (λ (f : PlainFlatSystem). are_fresh [] (variable_names f.variables) ≡ true) c.requires c.is_within_limits.ensures.names)
+    own_names c.args.script.now c.spelled_scripts_are_valid.ensures (subst (λ (f : PlainFlatSystem). are_fresh [] (variable_names f.variables) ≡ true) c.requires c.is_within_limits.ensures.names)
     (subst (λ (f : PlainFlatSystem). length f.queries ≤ 2 ^ 32) c.requires (few_queries c.args.system.now c.is_within_limits.ensures.size))
 
 pub returns-clause-again : goal.returns-clause-again
 returns-clause-again c =
-    names_again c.args.script.now c.spelled_scripts_are_whole.ensures (subst (λ (f : PlainFlatSystem). are_fresh [] (variable_names f.variables) ≡ true) c.requires c.is_within_limits.ensures.names)
+    names_again c.args.script.now c.spelled_scripts_are_valid.ensures (subst (λ (f : PlainFlatSystem). are_fresh [] (variable_names f.variables) ≡ true) c.requires c.is_within_limits.ensures.names)
     c.printable_forms_give_spellable_names.ensures

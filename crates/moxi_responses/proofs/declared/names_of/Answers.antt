@@ -1,5 +1,5 @@
 use Rattle.moxi_scripts.specs.declared.script.Query.{Query}
-use Rattle.moxi_scripts.specs.Whole.{query_names}
+use Rattle.moxi_scripts.specs.Valid.{query_names}
 use Rattle.moxi_responses.proofs.Named.{mapped_step}
 use Rattle.moxi_responses.proofs.declared.names_of.Goals as goal
 

@@ -1,5 +1,5 @@
 use Rattle.std.proofs.Common.{◌≡◌, ◌++◌, drop}
-use Rattle.moxi_scripts.specs.Whole.{query_names}
+use Rattle.moxi_scripts.specs.Valid.{query_names}
 use Rattle.moxi_responses.proofs.declared.names_of.Given as goal
 
 abbrev pub invariant-loop-k : goal.invariant-loop-k

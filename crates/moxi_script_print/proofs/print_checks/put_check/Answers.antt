@@ -7,7 +7,7 @@ use Rattle.moxi_script_print.specs.Printing.{shown_conditions, shown_lists}
 use Rattle.moxi_scripts.specs.Script.{plain_check}
 use Rattle.moxi_script_print.proofs.Pieces.{check_end}
 use Rattle.moxi_script_print.proofs.print_checks.put_check.Goals as goal
-use Rattle.moxi_scripts.specs.Whole.{check_variables}
+use Rattle.moxi_scripts.specs.Valid.{check_variables}
 use Rattle.moxi_term_print.proofs.TextLaws.{ok_same, onto}
 
 pub returns : goal.returns

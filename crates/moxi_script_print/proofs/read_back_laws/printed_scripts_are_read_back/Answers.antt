@@ -8,9 +8,9 @@ use Rattle.moxi_script_print.proofs.read_back_laws.printed_scripts_are_read_back
 pub returns : goal.returns
 returns c s spelled depth =
     ∥∥₁_map spelled (λ (i : IsSpelled s).
-    let whole = c.spelled_scripts_are_whole.ensures i.forms i.end s i.spelled in
+    let whole = c.spelled_scripts_are_valid.ensures i.forms i.end s i.spelled in
     let names = c.printable_forms_give_spellable_names.ensures i.forms i.end s i.printable i.spelled in
-    let b = c.shown_is_read_back.ensures (shown_script s) (c.whole_scripts_can_be_shown.ensures s whole names) depth in
+    let b = c.shown_is_read_back.ensures (shown_script s) (c.valid_scripts_can_be_shown.ensures s whole names) depth in
     let r : ReadsBackScript (lines_text (shown_script s)) s = record {
       forms = b.forms;
       spelled = b.spelled;

@@ -1,6 +1,6 @@
 use Rattle.std.specs.Prelude.{codes}
 use Rattle.std.proofs.Common.{◌∙◌, ◌++◌, [], ap, subst, sym}
-use Rattle.moxi_lines.specs.TermLines.{Made}
+use Rattle.moxi_lines.specs.TermLines.{Built}
 use Rattle.moxi_lines.specs.Lines.{with_assumptions, with_currents}
 use Rattle.moxi_to_btor.specs.Queries.{CanPutAssumptions, CanPutCurrents}
 use Rattle.moxi_to_btor.proofs.ConditionSteps.{chain_same, conditions_are, conditions_assumptions, conditions_currents, conditions_fold, conditions_latch, conditions_next, latch_same}
@@ -26,7 +26,7 @@ put_assumptions-requires c =
     let l = made c.put_latch.new.builder c.in_ok-ok.ok in
     let latch = latch_same f inputs lines q c.requires c.deref.result.now l name c.in_ok-ok.ensures.lines in
     let m = all_made c.put_latch.new.builder c.new-parts.result.items in
-    let start = ap (all_made c.put_latch.new.builder) c.new-parts.ensures.items ∙ ap (λ (l : Made). all_made l.0 []) latch in
+    let start = ap (all_made c.put_latch.new.builder) c.new-parts.ensures.items ∙ ap (λ (l : Built). all_made l.0 []) latch in
     subst (CanPutAssumptions f inputs m) (sym c.as_slice.ensures) (conditions_assumptions f inputs lines q c.requires m start)
 
 pub put_currents-requires : goal.put_currents-requires
@@ -39,7 +39,7 @@ put_currents-requires c =
     let l = made c.put_latch.new.builder c.in_ok-ok.ok in
     let latch = latch_same f inputs lines q c.requires c.deref.result.now l name c.in_ok-ok.ensures.lines in
     let m = all_made c.put_latch.new.builder c.new-parts.result.items in
-    let start = ap (all_made c.put_latch.new.builder) c.new-parts.ensures.items ∙ ap (λ (l : Made). all_made l.0 []) latch in
+    let start = ap (all_made c.put_latch.new.builder) c.new-parts.ensures.items ∙ ap (λ (l : Built). all_made l.0 []) latch in
     let a = all_made c.put_assumptions.new.builder c.put_assumptions.new.parts.items in
     let given = c.in_ok-put_assumptions.ensures ∙ ap (with_assumptions f inputs m) c.as_slice.ensures ∙ ap (λ m. with_assumptions f inputs m q.assumptions) start in
     subst (CanPutCurrents f inputs a) (sym c.as_slice-2.ensures) (conditions_currents f inputs lines q c.requires a given)
@@ -54,7 +54,7 @@ put_folded-requires c =
     let l = made c.put_latch.new.builder c.in_ok-ok.ok in
     let latch = latch_same f inputs lines q c.requires c.deref.result.now l name c.in_ok-ok.ensures.lines in
     let m = all_made c.put_latch.new.builder c.new-parts.result.items in
-    let start = ap (all_made c.put_latch.new.builder) c.new-parts.ensures.items ∙ ap (λ (l : Made). all_made l.0 []) latch in
+    let start = ap (all_made c.put_latch.new.builder) c.new-parts.ensures.items ∙ ap (λ (l : Built). all_made l.0 []) latch in
     let a = all_made c.put_assumptions.new.builder c.put_assumptions.new.parts.items in
     let given = c.in_ok-put_assumptions.ensures ∙ ap (with_assumptions f inputs m) c.as_slice.ensures ∙ ap (λ m. with_assumptions f inputs m q.assumptions) start in
     let h = all_made c.put_currents.new.builder c.put_currents.new.parts.items in
@@ -72,7 +72,7 @@ put_given-requires c =
     let l = made c.put_latch.new.builder c.in_ok-ok.ok in
     let latch = latch_same f inputs lines q c.requires c.deref.result.now l name c.in_ok-ok.ensures.lines in
     let m = all_made c.put_latch.new.builder c.new-parts.result.items in
-    let start = ap (all_made c.put_latch.new.builder) c.new-parts.ensures.items ∙ ap (λ (l : Made). all_made l.0 []) latch in
+    let start = ap (all_made c.put_latch.new.builder) c.new-parts.ensures.items ∙ ap (λ (l : Built). all_made l.0 []) latch in
     let a = all_made c.put_assumptions.new.builder c.put_assumptions.new.parts.items in
     let given = c.in_ok-put_assumptions.ensures ∙ ap (with_assumptions f inputs m) c.as_slice.ensures ∙ ap (λ m. with_assumptions f inputs m q.assumptions) start in
     let h = all_made c.put_currents.new.builder c.put_currents.new.parts.items in
@@ -92,7 +92,7 @@ returns c =
     let l = made c.put_latch.new.builder c.in_ok-ok.ok in
     let latch = latch_same f inputs lines q c.requires c.deref.result.now l name c.in_ok-ok.ensures.lines in
     let m = all_made c.put_latch.new.builder c.new-parts.result.items in
-    let start = ap (all_made c.put_latch.new.builder) c.new-parts.ensures.items ∙ ap (λ (l : Made). all_made l.0 []) latch in
+    let start = ap (all_made c.put_latch.new.builder) c.new-parts.ensures.items ∙ ap (λ (l : Built). all_made l.0 []) latch in
     let a = all_made c.put_assumptions.new.builder c.put_assumptions.new.parts.items in
     let given = c.in_ok-put_assumptions.ensures ∙ ap (with_assumptions f inputs m) c.as_slice.ensures ∙ ap (λ m. with_assumptions f inputs m q.assumptions) start in
     let h = all_made c.put_currents.new.builder c.put_currents.new.parts.items in

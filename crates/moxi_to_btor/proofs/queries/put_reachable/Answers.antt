@@ -1,7 +1,7 @@
 use Rattle.std.specs.Prelude.{codes}
 use Rattle.std.proofs.Common.{◌∙◌, ◌++◌, ◌<◌, length, map, ap, subst, sym}
 use Rattle.moxi_scripts.specs.Script.{formula_at, plain_formula}
-use Rattle.moxi_lines.specs.TermLines.{Made}
+use Rattle.moxi_lines.specs.TermLines.{Built}
 use Rattle.moxi_lines.specs.Lines.{formula_name, with_formula}
 use Rattle.moxi_to_btor.specs.Queries.{CanPutNumbered, reaching}
 use Rattle.moxi_to_btor.proofs.QuerySteps.{latch_here, met_here, name_is, reached_same, reachable_is, reachable_latch, reachable_met, reachable_next, reachable_numbered}
@@ -55,7 +55,7 @@ put_binary-requires c =
     let latch = latch_here f inputs name m r c.requires c.deref.result.now l all c.in_ok-latch.ensures.lines in
     let p = made c.put_numbered.new.builder c.in_ok-place.place in
     let place = c.in_ok-place.ensures ∙ ap (λ s. with_formula s inputs c.put_latch.new.builder (formula_at (map plain_formula fs) r)) c.scope.ensures ∙ ap (λ gs. with_formula f.scope inputs c.put_latch.new.builder (formula_at gs r)) same
-    ∙ ap (λ (l : Made). with_formula f.scope inputs l.0 (formula_at f.reachables r)) latch in
+    ∙ ap (λ (l : Built). with_formula f.scope inputs l.0 (formula_at f.reachables r)) latch in
     reachable_met f inputs name m r c.requires l p latch place
 
 pub put_given-requires : goal.put_given-requires
@@ -74,7 +74,7 @@ put_given-requires c =
     let latch = latch_here f inputs name m r c.requires c.deref.result.now l all c.in_ok-latch.ensures.lines in
     let p = made c.put_numbered.new.builder c.in_ok-place.place in
     let place = c.in_ok-place.ensures ∙ ap (λ s. with_formula s inputs c.put_latch.new.builder (formula_at (map plain_formula fs) r)) c.scope.ensures ∙ ap (λ gs. with_formula f.scope inputs c.put_latch.new.builder (formula_at gs r)) same
-    ∙ ap (λ (l : Made). with_formula f.scope inputs l.0 (formula_at f.reachables r)) latch in
+    ∙ ap (λ (l : Built). with_formula f.scope inputs l.0 (formula_at f.reachables r)) latch in
     let k = made c.put_binary.new.builder c.in_ok-met.met in
     let met = met_here f inputs name m r c.requires l p k latch place c.in_ok-met.ensures in
     reachable_next f inputs name m r c.requires l k latch met c.in_ok-latch.ensures.next
@@ -95,7 +95,7 @@ returns c =
     let latch = latch_here f inputs name m r c.requires c.deref.result.now l all c.in_ok-latch.ensures.lines in
     let p = made c.put_numbered.new.builder c.in_ok-place.place in
     let place = c.in_ok-place.ensures ∙ ap (λ s. with_formula s inputs c.put_latch.new.builder (formula_at (map plain_formula fs) r)) c.scope.ensures ∙ ap (λ gs. with_formula f.scope inputs c.put_latch.new.builder (formula_at gs r)) same
-    ∙ ap (λ (l : Made). with_formula f.scope inputs l.0 (formula_at f.reachables r)) latch in
+    ∙ ap (λ (l : Built). with_formula f.scope inputs l.0 (formula_at f.reachables r)) latch in
     let k = made c.put_binary.new.builder c.in_ok-met.met in
     let met = met_here f inputs name m r c.requires l p k latch place c.in_ok-met.ensures in
     reached_same c.put_place-2.result c.put_place-2.new.places.items _ c.put_given.new.builder c.put_place.new.places.items _

@@ -5,7 +5,7 @@ use Rattle.moxi_terms.specs.View.{plain}
 use Rattle.moxi_terms.specs.Cost.{cost, costs, cost_upto}
 use Rattle.moxi_terms.proofs.Plain.{plain-Apply, plain-Let, plain-Call, terms_step, called_cost, body_of, found_within}
 use Rattle.moxi_terms.proofs.ValueLaws.{taken_at, read_at}
-use Rattle.moxi_lines.specs.TermLines.{AllMade, with_operator}
+use Rattle.moxi_lines.specs.TermLines.{AllBuilt, with_operator}
 use Rattle.moxi_to_btor.specs.Terms.{CanPutTerm, CanPutTerms, all_lines_in, call_lines_in, functions_in, lines_in}
 use Rattle.moxi_to_btor.proofs.Plain.{plain-Constant, plain-Variable}
 use Rattle.moxi_to_btor.proofs.Stepping.{actuals_can, all_made, body_can, call_can, call_is, constant_can_put, first_can, inner_can, inside_call, later_small, made_same, now_small, operands_can, operator_can, rest_can, step_told, values_can}
@@ -94,7 +94,7 @@ put_tree-returns-in_ok-places-in-Apply-clause-line t c =
     let same : trees_of (map plain c.deref-in-Apply.result.now) ≡ trees_of (map plain c.in-Apply.terms.items) = ap (λ ts. trees_of (map plain ts)) c.deref-in-Apply.ensures.value in
     let got = c.in_ok-places-in-Apply.ensures.lines in
     let all = ap (all_made new) c.deref-in-Apply-2.ensures.value ∙ got ∙ ap (all_lines_in s old lines) same in
-    made_same c.put_operator.result c.put_operator.new.builder _ _ (ap (λ (m : AllMade). with_operator c.in-Apply.op m.0 m.1) all ∙ sym (ap (lines_in s old lines) e)) c.put_operator.ensures
+    made_same c.put_operator.result c.put_operator.new.builder _ _ (ap (λ (m : AllBuilt). with_operator c.in-Apply.op m.0 m.1) all ∙ sym (ap (lines_in s old lines) e)) c.put_operator.ensures
 
 -- ---- bound values
 
@@ -140,7 +140,7 @@ put_tree-returns-in_ok-more-in-Let-clause-line t c =
     let more = c.deref-in-Let-2.result.now in
     made_same c.put_body.result c.put_body.new.builder _ _
     (ap (λ b. lines_in s (b ++ more) new (plain c.deref-in-Let-3.result.now)) c.in_ok-more-in-Let.ensures.kept ∙ ap (lines_in s (old ++ more) new) body
-    ∙ ap (λ (m : AllMade). lines_in s (old ++ m.1) m.0 (plain c.in-Let.body.value)) all ∙ sym (ap (lines_in s old lines) e)) c.put_body.ensures.line
+    ∙ ap (λ (m : AllBuilt). lines_in s (old ++ m.1) m.0 (plain c.in-Let.body.value)) all ∙ sym (ap (lines_in s old lines) e)) c.put_body.ensures.line
 
 -- ---- arguments
 
@@ -179,7 +179,7 @@ put_tree-returns-in_ok-places-in-Call-clause-line t c =
     let same : trees_of (map plain c.deref-in-Call.result.now) ≡ trees_of (map plain c.in-Call.terms.items) = ap (λ ts. trees_of (map plain ts)) c.deref-in-Call.ensures.value in
     let got = c.in_ok-places-in-Call.ensures.lines in
     let all = ap (all_made new) c.deref-in-Call-2.ensures.value ∙ got ∙ ap (all_lines_in s old lines) same in
-    made_same c.put_call.result c.put_call.new.builder _ _ (ap (λ (m : AllMade). call_lines_in s c.in-Call.n m.0 m.1) all ∙ sym (ap (lines_in s old lines) e)) c.put_call.ensures
+    made_same c.put_call.result c.put_call.new.builder _ _ (ap (λ (m : AllBuilt). call_lines_in s c.in-Call.n m.0 m.1) all ∙ sym (ap (lines_in s old lines) e)) c.put_call.ensures
 
 -- ---- lists of terms
 

@@ -1,5 +1,5 @@
 use Rattle.std.proofs.Common.{◌∙◌, ◌+◌, drop, subst, sym, ap}
-use Rattle.moxi_lines.specs.TermLines.{AllMade}
+use Rattle.moxi_lines.specs.TermLines.{AllBuilt}
 use Rattle.moxi_lines.specs.Lines.{with_variables}
 use Rattle.moxi_to_btor.specs.Putting.{CanPutVariables}
 use Rattle.moxi_to_btor.proofs.VariableSteps.{first_variable, next_item, one_is, rest_variables}
@@ -10,7 +10,7 @@ put_variable-requires c =
     let l = c.loop-variable in
     let vs = c.as_slice-variable-items.result.now in
     let x = c.variable-item.result in
-    let m : AllMade = (l.builder, l.inputs.items) in
+    let m : AllBuilt = (l.builder, l.inputs.items) in
     let e = next_item vs l.variable-index x c.loop-variable-test.true c.variable-item.is in
     first_variable c.args.enumerations.now m x (drop (l.variable-index + 1) vs) (subst (CanPutVariables c.args.enumerations.now m) e l.invariant.can)
 
@@ -20,8 +20,8 @@ loop-variable-preserved c =
     let l = c.loop-variable in
     let vs = c.as_slice-variable-items.result.now in
     let x = c.variable-item.result in
-    let m : AllMade = (l.builder, l.inputs.items) in
-    let n : AllMade = (c.put_variable.new.builder, c.put_place.new.places.items) in
+    let m : AllBuilt = (l.builder, l.inputs.items) in
+    let n : AllBuilt = (c.put_variable.new.builder, c.put_place.new.places.items) in
     let rest = drop (l.variable-index + 1) vs in
     let e = next_item vs l.variable-index x c.loop-variable-test.true c.variable-item.is in
     let made = one_is es m x c.put_variable.new.builder c.in_ok-input.input c.put_place.new.places.items c.in_ok-input.ensures c.in_ok-put_place.ensures in

@@ -2,7 +2,7 @@ use Rattle.std.proofs.Common.{◌≡◌, sym, subst}
 use Rattle.text_core.specs.declared.verdict.Verdict.TheVariants.{Yes}
 use Rattle.witness_lift.specs.Breaking.{IsFormOf}
 use Rattle.trace_lower.specs.Lowered.{lowered, verdict_on}
-use Rattle.smv_commands.proofs.LoweredRuns.{OfForms, lowered_fits, said_denied, said_lowered}
+use Rattle.smv_commands.proofs.LoweredRuns.{OfForms, lowered_fits, said_rejected, said_lowered}
 use Rattle.smv_commands.proofs.lower.run_answer.Goals as goal
 
 pub print_witness-requires : goal.print_witness-requires
@@ -19,4 +19,4 @@ returns-in_ok-text-in-Ok-clause-answer c =
 
 pub returns-in-Err-No-clause-answer : goal.returns-in-Err-No-clause-answer
 returns-in-Err-No-clause-answer c =
-    said_denied c.args.chain.now c.args.j c.args.run.now c.in-Err-No.field-0 (λ source form. c.in-Err-No.ensures.refused source (subst (IsFormOf source) (sym c.flat.ensures) form)) c.in-Err-No.field-0-is c.in-Err-No.step-is c.in-Err-No.clause-is
+    said_rejected c.args.chain.now c.args.j c.args.run.now c.in-Err-No.field-0 (λ source form. c.in-Err-No.ensures.refused source (subst (IsFormOf source) (sym c.flat.ensures) form)) c.in-Err-No.field-0-is c.in-Err-No.step-is c.in-Err-No.clause-is

@@ -8,7 +8,7 @@ use Rattle.smv_width.specs.FlatWidth.{width_of}
 use Rattle.smv_script.specs.Script.{query_of}
 use Rattle.moxi_scripts.specs.Behaviour.{Trace}
 use Rattle.moxi_scripts.specs.Meeting.{MeetsQuery}
-use Rattle.moxi_scripts.specs.Whole.{IsWhole}
+use Rattle.moxi_scripts.specs.Valid.{IsValid}
 use Rattle.moxi_script_print.specs.NamesOfScripts.{HasSpellableNames}
 use Rattle.smv_script_laws.specs.RunLaws.{HasRun, decoded_run}
 use Rattle.moxi_term_print.specs.Shown.{SpellsShown, lines_text, shown_depths}
@@ -27,11 +27,11 @@ unfolding moxi_text
 returns c bytes source a =
     let m = a.is_model in
     let end : Place = after start bytes in
-    let whole : IsWhole (script_for source) = c.scripts_are_whole.ensures source end bytes m.tokens m.lexed m.spelled 0 a.accepted in
+    let whole : IsValid (script_for source) = c.scripts_are_valid.ensures source end bytes m.tokens m.lexed m.spelled 0 a.accepted in
     let names : HasSpellableNames (script_for source) = c.names_are_spellable.ensures source end bytes m.tokens m.lexed m.spelled 0 a.accepted in
     let few : shown_depths (shown_script (script_for source)) ≤ 1145 = c.brackets_are_few.ensures source end m.tokens m.spelled m.low (width_of (flat_smv source)) in
     let shown : SpellsShown (lines_text (shown_script (script_for source))) (shown_script (script_for source)) =
-    c.shown_is_read_back.ensures (shown_script (script_for source)) (c.whole_scripts_can_be_shown.ensures (script_for source) whole names) (omega (arith, few)) in
+    c.shown_is_read_back.ensures (shown_script (script_for source)) (c.valid_scripts_can_be_shown.ensures (script_for source) whole names) (omega (arith, few)) in
     let again : (end : Place) → ReadsAs shown.forms end (script_for source) = λ end. c.printed_scripts_are_spelled.ensures (script_for source) shown.forms end whole shown.shown in
     let decoded : (j k : ℕ) (trace : Trace) → MeetsQuery (script_for source) (query_of j) k trace → HasRun source j k =
     λ j k trace met. (

@@ -19,17 +19,17 @@ pub put_body-requires : goal.put_body-requires
 put_body-requires c =
     let low : c.loop-k.k < length c.args.order.now = omega arith in
     next_ready (map instance_plain c.args.table.now) c.args.bodies.now c.args.order.now c.loop-k.k c.at.result.now c.numbered_body-body.result.now (entries_seen c.loop-k.entries) c.requires.bodies c.requires.order c.names_settle.ensures
-    c.references_stand_before.ensures low c.at.ensures c.numbered_body-body.ensures c.loop-k.invariant
+    c.references_come_before.ensures low c.at.ensures c.numbered_body-body.ensures c.loop-k.invariant
 
 pub loop-k-preserved : goal.loop-k-preserved
 loop-k-preserved c =
     let low : c.loop-k.k < length c.args.order.now = omega arith in
     next_put (map instance_plain c.args.table.now) c.args.bodies.now c.args.order.now c.loop-k.k c.at.result.now c.numbered_body-body.result.now (entries_seen c.loop-k.entries) (entries_seen c.put_body.new.entries) c.requires.bodies c.requires.order
-    c.names_settle.ensures c.types_settle.ensures c.types_hang_on_paths.ensures c.references_stand_before.ensures low c.at.ensures c.numbered_body-body.ensures c.in_ok-put_body.ensures c.loop-k.invariant
+    c.names_settle.ensures c.types_settle.ensures c.types_hang_on_paths.ensures c.references_come_before.ensures low c.at.ensures c.numbered_body-body.ensures c.in_ok-put_body.ensures c.loop-k.invariant
 
 pub returns : goal.returns
 returns c =
     let t = map instance_plain c.args.table.now in
     let whole : take c.loop-k.k c.args.order.now ≡ c.args.order.now = take_all c.loop-k.k c.args.order.now (omega arith) in
-    all_held t (entries_seen c.loop-k.entries) c.args.order.now c.requires.order c.names_settle.ensures c.types_settle.ensures c.order_is_whole.ensures
+    all_held t (entries_seen c.loop-k.entries) c.args.order.now c.requires.order c.names_settle.ensures c.types_settle.ensures c.order_is_complete.ensures
     (subst (λ order. Holds t (entries_seen c.loop-k.entries) (map (numbered t) order)) whole c.loop-k.invariant)

@@ -3,7 +3,7 @@ use Rattle.smv_text.specs.Tree.{links_of, branches_of, trees_of}
 use Rattle.smv_text.specs.View.{plain, plain_link, plain_branch}
 use Rattle.smv_meaning.specs.Checks.{single, linked, tree_checks, tree_types, link_checks, link_types, branch_checks, condition_types, value_types, first_failing}
 use Rattle.smv_intervals.specs.View.{seen}
-use Rattle.smv_types.specs.View.{standing_seen}
+use Rattle.smv_types.specs.View.{permissions_seen}
 use Rattle.smv_types.specs.Outcome.{outcome, links_known, branches_known, trees_known}
 use Rattle.smv_types.specs.Steps.{passed}
 use Rattle.smv_types.proofs.typing.+typing.Given as goal
@@ -11,35 +11,35 @@ use Rattle.smv_types.proofs.typing.+typing.Given as goal
 abbrev pub invariant-fronts_typed-loop-link : goal.invariant-fronts_typed-loop-link
 invariant-fronts_typed-loop-link g l = record {
   known : IsTrue (links_known (g.C.Scope.knows l.scope) (links_of (map plain_link (drop l.link-index l.links))));
-  same : outcome (linked (g.C.Scope.names l.scope) (standing_seen l.at) l.place (passed (option_map seen l.whole)) (links_of (map plain_link (drop l.link-index l.links))))
-      ≡ outcome (linked (g.C.Scope.names l.scope) (standing_seen l.at) l.place (passed (option_map seen l.fn.first)) (links_of (map plain_link l.links)));
+  same : outcome (linked (g.C.Scope.names l.scope) (permissions_seen l.at) l.place (passed (option_map seen l.whole)) (links_of (map plain_link (drop l.link-index l.links))))
+      ≡ outcome (linked (g.C.Scope.names l.scope) (permissions_seen l.at) l.place (passed (option_map seen l.fn.first)) (links_of (map plain_link l.links)));
 }
 
 abbrev pub invariant-operand_types-loop-link : goal.invariant-operand_types-loop-link
 invariant-operand_types-loop-link g l = record {
   known : IsTrue (links_known (g.C.Scope.knows l.scope) (links_of (map plain_link (drop l.link-index l.links))));
-  passes : first_failing (link_checks (g.C.Scope.names l.scope) (standing_seen l.at) (links_of (map plain_link l.links)))
-      ≡ first_failing (link_checks (g.C.Scope.names l.scope) (standing_seen l.at) (links_of (map plain_link (drop l.link-index l.links))));
-  types : map (option_map seen) l.types.items ++ link_types (g.C.Scope.names l.scope) (standing_seen l.at) (links_of (map plain_link (drop l.link-index l.links)))
-      ≡ option_map seen l.fn.first ∷ link_types (g.C.Scope.names l.scope) (standing_seen l.at) (links_of (map plain_link l.links));
+  passes : first_failing (link_checks (g.C.Scope.names l.scope) (permissions_seen l.at) (links_of (map plain_link l.links)))
+      ≡ first_failing (link_checks (g.C.Scope.names l.scope) (permissions_seen l.at) (links_of (map plain_link (drop l.link-index l.links))));
+  types : map (option_map seen) l.types.items ++ link_types (g.C.Scope.names l.scope) (permissions_seen l.at) (links_of (map plain_link (drop l.link-index l.links)))
+      ≡ option_map seen l.fn.first ∷ link_types (g.C.Scope.names l.scope) (permissions_seen l.at) (links_of (map plain_link l.links));
 }
 
 abbrev pub invariant-part_types-loop-part : goal.invariant-part_types-loop-part
 invariant-part_types-loop-part g l = record {
   known : IsTrue (trees_known (g.C.Scope.knows l.scope) (trees_of (map plain (drop l.part-index l.parts))));
-  passes : first_failing (tree_checks (g.C.Scope.names l.scope) (standing_seen l.at) (trees_of (map plain l.parts)))
-      ≡ first_failing (tree_checks (g.C.Scope.names l.scope) (standing_seen l.at) (trees_of (map plain (drop l.part-index l.parts))));
-  types : map (option_map seen) l.types.items ++ tree_types (g.C.Scope.names l.scope) (standing_seen l.at) (trees_of (map plain (drop l.part-index l.parts)))
-      ≡ tree_types (g.C.Scope.names l.scope) (standing_seen l.at) (trees_of (map plain l.parts));
+  passes : first_failing (tree_checks (g.C.Scope.names l.scope) (permissions_seen l.at) (trees_of (map plain l.parts)))
+      ≡ first_failing (tree_checks (g.C.Scope.names l.scope) (permissions_seen l.at) (trees_of (map plain (drop l.part-index l.parts))));
+  types : map (option_map seen) l.types.items ++ tree_types (g.C.Scope.names l.scope) (permissions_seen l.at) (trees_of (map plain (drop l.part-index l.parts)))
+      ≡ tree_types (g.C.Scope.names l.scope) (permissions_seen l.at) (trees_of (map plain l.parts));
 }
 
 abbrev pub invariant-branch_types-loop-branch : goal.invariant-branch_types-loop-branch
 invariant-branch_types-loop-branch g l = record {
   known : IsTrue (branches_known (g.C.Scope.knows l.scope) (branches_of (map plain_branch (drop l.branch-index l.branches))));
-  passes : first_failing (branch_checks (g.C.Scope.names l.scope) (standing_seen l.at) (branches_of (map plain_branch l.branches)))
-      ≡ first_failing (branch_checks (g.C.Scope.names l.scope) (standing_seen l.at) (branches_of (map plain_branch (drop l.branch-index l.branches))));
-  conditions : map (option_map seen) l.conditions.items ++ condition_types (g.C.Scope.names l.scope) (single (standing_seen l.at)) (branches_of (map plain_branch (drop l.branch-index l.branches)))
-      ≡ condition_types (g.C.Scope.names l.scope) (single (standing_seen l.at)) (branches_of (map plain_branch l.branches));
-  values : map (option_map seen) l.values.items ++ value_types (g.C.Scope.names l.scope) (standing_seen l.at) (branches_of (map plain_branch (drop l.branch-index l.branches))) []
-      ≡ value_types (g.C.Scope.names l.scope) (standing_seen l.at) (branches_of (map plain_branch l.branches)) [];
+  passes : first_failing (branch_checks (g.C.Scope.names l.scope) (permissions_seen l.at) (branches_of (map plain_branch l.branches)))
+      ≡ first_failing (branch_checks (g.C.Scope.names l.scope) (permissions_seen l.at) (branches_of (map plain_branch (drop l.branch-index l.branches))));
+  conditions : map (option_map seen) l.conditions.items ++ condition_types (g.C.Scope.names l.scope) (single (permissions_seen l.at)) (branches_of (map plain_branch (drop l.branch-index l.branches)))
+      ≡ condition_types (g.C.Scope.names l.scope) (single (permissions_seen l.at)) (branches_of (map plain_branch l.branches));
+  values : map (option_map seen) l.values.items ++ value_types (g.C.Scope.names l.scope) (permissions_seen l.at) (branches_of (map plain_branch (drop l.branch-index l.branches))) []
+      ≡ value_types (g.C.Scope.names l.scope) (permissions_seen l.at) (branches_of (map plain_branch l.branches)) [];
 }

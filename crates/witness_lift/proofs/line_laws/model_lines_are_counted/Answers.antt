@@ -12,7 +12,7 @@ use Rattle.witness_lift.proofs.line_laws.model_lines_are_counted.Goals as goal
 pub returns : goal.returns
 returns c source end text xs l s needed a low =
     let width = width_of (flat_smv source) in
-    let whole = c.scripts_are_whole.ensures source end text xs l s needed a in
+    let whole = c.scripts_are_valid.ensures source end text xs l s needed a in
     let out = c.model_lines_are_laid_out.ensures source end text xs l s needed a low in
     let size : flat_size (model_system source) ≡ script_size (script_for source) = c.flat_sizes_are_script_sizes.ensures (script_for source) whole in
     let heavy = c.sizes_are_weighed.ensures source end xs s width in

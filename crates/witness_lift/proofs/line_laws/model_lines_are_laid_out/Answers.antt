@@ -12,7 +12,7 @@ use Rattle.witness_lift.proofs.line_laws.model_lines_are_laid_out.Goals as goal
 
 pub returns : goal.returns
 returns c source end text xs l s needed a low =
-    let whole = c.scripts_are_whole.ensures source end text xs l s needed a in
+    let whole = c.scripts_are_valid.ensures source end text xs l s needed a in
     let small = (c.scripts_are_small.ensures source end xs s needed a low (width_of (flat_smv source))).size in
     let symbols = c.symbols_are_weighed.ensures source end xs s in
     let light = weight_fits source needed a in

@@ -6,7 +6,7 @@ use Rattle.witness_lift.proofs.line_laws.models_have_frames.Goals as goal
 
 pub returns : goal.returns
 returns c source end text xs l s needed a low =
-    let whole = c.scripts_are_whole.ensures source end text xs l s needed a in
+    let whole = c.scripts_are_valid.ensures source end text xs l s needed a in
     let laid = (c.model_lines_are_laid_out.ensures source end text xs l s needed a low).laid in
     let has = c.runs_are_traces.ensures.queries source in
     let flat : FlatTracesOf source = c.traces_have_flat_traces.ensures (script_for source) whole in

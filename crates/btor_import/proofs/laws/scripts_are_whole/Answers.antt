@@ -1,5 +1,0 @@
-use Rattle.btor_import.proofs.Whole.{whole_script}
-use Rattle.btor_import.proofs.laws.scripts_are_whole.Goals as goal
-
-pub returns : goal.returns
-returns c = whole_script

@@ -1,5 +1,0 @@
-use Rattle.btor_tree.proofs.Alike.{pushed_quiet}
-use Rattle.btor_tree.proofs.laws.grows_quietly.Goals as goal
-
-pub returns : goal.returns
-returns c = pushed_quiet

@@ -1,5 +1,0 @@
-use Rattle.moxi_script_print.proofs.NamesLawsShown.{script_shown}
-use Rattle.moxi_script_print.proofs.name_laws.whole_scripts_can_be_shown.Goals as goal
-
-pub returns : goal.returns
-returns c = script_shown c.standing_terms_can_be_shown.ensures.terms c.standing_terms_can_be_shown.ensures.sorts c.shown_sorts_are_read.ensures.stand c.terms_stand_on.ensures.terms
