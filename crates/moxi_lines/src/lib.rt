@@ -12,6 +12,6 @@ pub use system_laws::{
     words_are_decoded,
 };
 pub use term_laws::{
-    choice_widths_are_least, codes_are_words, codes_come_back, terms_grow_by_shared,
-    terms_have_their_words, words_come_back,
+    choice_widths_are_least, codes_are_words, codes_round_trip, terms_grow_by_shared,
+    terms_have_their_words, words_round_trip,
 };

@@ -12,12 +12,12 @@ pub fn codes_are_words()
 {}
 
 /// Proves that decoding the word of a value of a sort returns the value.
-pub fn codes_come_back()
+pub fn codes_round_trip()
     ensures { CodesRoundTrip }
 {}
 
 /// Proves that encoding the value of a word of a sort's width returns the word.
-pub fn words_come_back()
+pub fn words_round_trip()
     ensures { WordsRoundTrip }
 {}
 

@@ -10,3 +10,4 @@ pub mod TraceAnswers
 pub mod Smv
 pub mod LiftedRuns
 pub mod LoweredRuns
+pub mod ListedRuns

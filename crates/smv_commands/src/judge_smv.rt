@@ -5,6 +5,8 @@ ghost use Rattle.command_core.specs.Giving.{MayGive};
 ghost use Rattle.command_core.specs.Keeping.{KeepsShelf};
 ghost use Rattle.command_core.specs.Reading.{StopsUnread, StopsWith};
 ghost use Rattle.smv_text.specs.Tree.{PlainSource};
+ghost use Rattle.smv_trace.specs.Answer.{declarations_of};
+ghost use Rattle.smv_trace.specs.Runs.{IsStatedRun};
 ghost use Rattle.witness_lift.specs.Breaking.{IsFormOf};
 ghost use Rattle.command_core.specs.declared.answer.Stop.TheVariants as Stop;
 ghost use Rattle.smv_commands.specs.SmvJudgement.{IsSmvJudgement, verdict_answer};
@@ -16,7 +18,7 @@ ghost use Rattle.smv_commands.specs.Models.{smv_too_long};
 use crate::models::{SMV_LIMIT, flat_in};
 use command_core::{Answer, FirstFile, LastFile, Output, Stop, answer_file, answer_files, refusal};
 use smv_flatten::Flat;
-use smv_judge::judge_flat;
+use smv_judge::judge_listed;
 use smv_meaning::Run;
 use smv_trace::{MOST_BYTES, read_trace};
 use std::alloc::Global;
@@ -62,14 +64,15 @@ impl<'a> LastFile for JudgeTrace<'a> {
 }
 
 // The answer for the verdict on a run.
-#[tactic(auto, using(crate::proofs::TraceAnswers::has_flat, crate::proofs::TraceAnswers::said_yes, crate::proofs::TraceAnswers::said_no))]
+#[tactic(auto, using(crate::proofs::ListedRuns::stated_listed, crate::proofs::TraceAnswers::has_flat, crate::proofs::TraceAnswers::said_yes, crate::proofs::TraceAnswers::said_no))]
 fn run_answer(alloc: Global, flat: &Flat, j: u32, run: &Run) -> Result<Answer, Stop>
     requires model { (source : PlainSource) × IsFormOf source flat.now }
     requires few { length run.now.states < 2 ^ 32 }
+    requires stated { IsStatedRun (declarations_of flat.now) run.now }
     ensures answer { IfOk result (IsRunAnswer verdict_answer flat.now j run.now) }
     ensures stop { IfErr result (λ stop. stop ≡ Stop.NoMemory) }
 {
-    match judge_flat(alloc, flat, j, run)? {
+    match judge_listed(alloc, flat, j, run)? {
         Verdict::Yes => Ok(Answer::Done(Output::Broken(j, last_step(run)))),
         Verdict::No(step, clause) => Ok(Answer::No(step, clause)),
     }

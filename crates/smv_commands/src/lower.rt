@@ -5,6 +5,8 @@ ghost use Rattle.command_core.specs.Giving.{MayGive};
 ghost use Rattle.command_core.specs.Keeping.{KeepsShelf};
 ghost use Rattle.command_core.specs.Reading.{StopsUnread, StopsWith};
 ghost use Rattle.smv_text.specs.Tree.{PlainSource};
+ghost use Rattle.smv_trace.specs.Answer.{declarations_of};
+ghost use Rattle.smv_trace.specs.Runs.{IsStatedRun};
 ghost use Rattle.witness_lift.specs.Breaking.{IsFormOf};
 ghost use Rattle.command_core.specs.declared.answer.Stop.TheVariants as Stop;
 ghost use Rattle.smv_commands.specs.Lowering.{IsLowering, RunsAreLowered, lowered_answer};
@@ -20,7 +22,7 @@ use smv_trace::{MOST_BYTES, read_trace};
 use std::alloc::Global;
 use text_core::kinds::{smv, trace};
 use text_core::{End, Name, Shelf};
-use trace_lower::{LowerEnd, lower_flat, lowered_are_accepted, lowered_come_back};
+use trace_lower::{LowerEnd, lower_flat, lowered_are_accepted, lowered_round_trip};
 use witness_lift::{SmvChain, model_lines_are_laid_out, model_lines_are_spelled};
 
 // Lowers a trace to the witness that states its run, for the chain's model and invariant j.
@@ -65,12 +67,13 @@ impl<'a> LastFile for LowerTrace<'a> {
 fn run_answer(alloc: Global, chain: &SmvChain, j: u32, run: &Run) -> Result<Answer, Stop>
     requires model { (source : PlainSource) × IsFormOf source chain.now }
     requires few { length run.now.states < 2 ^ 32 }
+    requires stated { IsStatedRun (declarations_of chain.now) run.now }
     ensures answer { IfOk result (IsRunAnswer lowered_answer chain.now j run.now) }
     ensures stop { IfErr result (λ stop. stop ≡ Stop.NoMemory) }
 {
     lowered_are_accepted();
     model_lines_are_laid_out();
-    match lower_flat(alloc, chain.flat(), j, run) {
+    match lower_flat(alloc, chain.flat(), j, run, true) {
         Ok(witness) => {
             let text = print_witness(alloc, chain.nodes(), &witness)?;
             Ok(Answer::Done(Output::Text(text)))
@@ -152,6 +155,6 @@ pub fn runs_are_lowered()
     model_lines_are_laid_out();
     model_lines_are_spelled();
     lowered_are_accepted();
-    lowered_come_back();
+    lowered_round_trip();
     printed_is_read();
 }

@@ -191,7 +191,7 @@ declared_at [] k m d h = cc
 declared_at (o ∷ ms) zero m d h = let s : o ≡ m = cc in subst OriginDeclared s d.0
 declared_at (o ∷ ms) (suc k) m d h = declared_at ms k m d.1 h
 
-names_same : (t : List Instance) (ms : List Origin) → map (λ i. i.name) (map (flat_item_of t) ms) ≡ map (path_of t) ms
+pub names_same : (t : List Instance) (ms : List Origin) → map (λ i. i.name) (map (flat_item_of t) ms) ≡ map (path_of t) ms
 names_same t [] = refl
 names_same t (m ∷ ms) = ap (λ xs. path_of t m ∷ xs) (names_same t ms)
 

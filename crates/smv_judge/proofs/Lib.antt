@@ -2,3 +2,4 @@ pub mod Declared
 pub mod FitLaws
 pub mod StepLaws
 pub mod Takes
+pub mod ListedLaws

@@ -1,18 +1,25 @@
 -- Of which model a flat form is, and what fails at a step of a stated run (NuSMV 2.6 User Manual, 2.3 and 2.4).
-use Rattle.std.specs.Prelude.{◌≡◌, ℕ, ◌&&◌, Bool, if◌then◌else◌, List, [], ◌∷◌, Option, Some, None, IsTrue}
+use Rattle.std.specs.Prelude.{◌≡◌, ℕ, ◌&&◌, Bool, true, if◌then◌else◌, List, [], ◌∷◌, map, length, Option, Some, None, IsTrue}
+use Rattle.std.specs.List.{AllByRecursion}
+use Rattle.name_maps.specs.Tables.{AreDistinct}
 use Rattle.text_core.specs.declared.verdict.Clause.{Clause}
 use Rattle.text_core.specs.declared.verdict.Clause.TheVariants.{ValueOutside, InitFails, TransFails, InvarFails}
 use Rattle.smv_text.specs.Tree.{PlainSource}
+use Rattle.smv_meaning.specs.declared.value.Given.{Given}
+use Rattle.smv_meaning.specs.declared.value.Run.{Run}
 use Rattle.smv_meaning.specs.Values.{Valuation}
 use Rattle.smv_meaning.specs.Instances.{Instance, instances_of}
 use Rattle.smv_meaning.specs.Phases.{IsAccepted}
 use Rattle.smv_meaning.specs.Runs.{state_fits, label_fits, init_holds, invar_holds, step_holds}
+use Rattle.smv_items.specs.FlatItems.{PlainFlatItem}
 use Rattle.smv_flat.specs.FlatForms.{PlainFlat, flat_smv}
 use Rattle.smv_flat_laws.specs.FlatTruth.{IsRow}
 use Rattle.smv_operators.specs.declared.seen.Seen.{Seen}
 use Rattle.smv_flat_evaluation.specs.RowValues.{row_values}
 use Rattle.smv_flatten.specs.FlatModel.{IsRead}
 use Rattle.smv_rows.specs.declared.parts.FlatParts.{FlatParts}
+use Rattle.smv_rows.specs.declared.order.RowOrder.{RowOrder}
+use Rattle.smv_rows.specs.Listed.{lists_state, lists_label, AreListed}
 use Rattle.smv_rows.specs.Parts.{parts_plain}
 
 -- a text spells the model, its checks hold, and this is its flat form
@@ -50,7 +57,26 @@ StateFits flat state = (source : PlainSource) → IsFlatOf source (parts_plain f
 
 -- a row of the state under some label, both of the declared types
 pub record IsStateRow (flat : FlatParts) (state : Valuation) (values : List Seen) : Type 0 where
+  pub size : length values ≡ length flat.items.now
   pub label : Valuation
   pub row : IsRow (parts_plain flat) state label (row_values values)
   pub state_fits : StateFits flat state
   pub label_fits : LabelFits flat label
+
+-- ---- states and labels that name their variables in the order of the items
+
+-- all of a run's states and labels
+pub record IsListedRun (flat : PlainFlat) (run : Run) : Type 0 where
+  pub states : AllByRecursion (λ s. lists_state flat.items s ≡ true) run.states
+  pub labels : AllByRecursion (λ l. lists_label flat.items l ≡ true) run.labels
+
+-- where values are given in order, these are
+abbrev pub CanGive : FlatParts → RowOrder → (state label : List Given) → Type 0
+CanGive flat order state label = order.listed ≡ true → AreListed (parts_plain flat).items state label
+
+-- these states, their labels and the last label
+pub record AllListed (items : List PlainFlatItem) (states labels : List (List Given)) (last : List Given) : Type 0 where
+  pub apart : AreDistinct (map (λ m. m.name) items)
+  pub states : AllByRecursion (λ s. lists_state items s ≡ true) states
+  pub labels : AllByRecursion (λ l. lists_label items l ≡ true) labels
+  pub last : lists_label items last ≡ true

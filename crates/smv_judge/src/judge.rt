@@ -1,5 +1,5 @@
 // The judge of stated runs.
-ghost use Rattle.std.specs.Prelude.{◌≡◌, ◌<◌, ◌+◌, ◌^◌, ◌++◌, [], ◌∷◌, List, length, map, IfOk, OnOk};
+ghost use Rattle.std.specs.Prelude.{◌≡◌, ◌<◌, ◌+◌, ◌^◌, ◌++◌, true, [], ◌∷◌, List, length, map, IfOk, OnOk};
 ghost use Rattle.text_core.specs.declared.verdict.Verdict.TheVariants.{Yes};
 ghost use Rattle.smv_text.specs.Tree.{PlainSource};
 ghost use Rattle.smv_text.specs.View.{plain_source};
@@ -9,11 +9,10 @@ ghost use Rattle.smv_meaning.specs.Phases.{IsAccepted};
 ghost use Rattle.smv_meaning.specs.Runs.{judged_after, judged_smv};
 ghost use Rattle.smv_flat_laws.specs.FlatTruth.{Row as PlainRow, IsRow};
 ghost use Rattle.smv_flatten.specs.FlatModel.{IsRead, flat_plain};
-ghost use Rattle.smv_rows.specs.Held.{HoldsState};
 ghost use Rattle.smv_rows.specs.Parts.{parts_plain};
 ghost use Rattle.smv_rows.specs.RowOrders.{IsRowOrder};
 ghost use Rattle.smv_judge.specs.Labels.{first_label as label_of};
-ghost use Rattle.smv_judge.specs.Models.{IsFlatOf, HasModel, LabelFits, StateFits, IsStateRow};
+ghost use Rattle.smv_judge.specs.Models.{IsFlatOf, HasModel, CanGive, AllListed, IsListedRun, LabelFits, StateFits, IsStateRow};
 ghost use Rattle.smv_judge.specs.Taken.{HasTaken};
 
 use crate::labels::first_label;
@@ -41,10 +40,11 @@ fn take_last<'a, T: TakesRows>(
     requires order { IsRowOrder flat.now order.now }
     requires state { StateFits flat.now (given state.now) }
     requires label { LabelFits flat.now (given label.now) }
+    requires listed { CanGive flat.now order.now state.now label.now }
     requires taken { (start : T) × (rows : List PlainRow) × T.took start rows taker.old }
     ensures { OnOk result ((r : PlainRow) × IsRow (parts_plain flat.now) (given state.now) (given label.now) r × ((start : T) (rows : List PlainRow) → T.took start rows taker.old → T.took start (rows ++ r ∷ []) taker.new)) }
 {
-    row.give(order, state, label)?;
+    row.give(flat, order, state, label)?;
     row.evaluate(flat, order);
     taker.take_row(alloc, row.values.as_slice())?;
     Ok(())
@@ -66,9 +66,9 @@ fn judge_steps<'a, T: TakesRows>(
     requires model { HasModel flat.now }
     requires order { IsRowOrder flat.now order.now }
     requires row { IsStateRow flat.now (given first.now) row.old.values.items }
-    requires held { HoldsState order.now (given first.now) row.old }
     requires few { length following.now + 1 < 2 ^ 32 }
     requires last { LabelFits flat.now (given last.now) }
+    requires listed { order.now.listed ≡ true → AllListed (parts_plain flat.now).items (first.now ∷ following.now) labels.now last.now }
     requires none { T.took taker.old [] taker.old }
     ensures taken { IfOk result (λ v. v ≡ Yes → HasTaken (λ rows. T.took taker.old rows taker.new) (parts_plain flat.now) last.now (first.now ∷ following.now) labels.now) }
     ensures verdict { IfOk result (λ v. (source : PlainSource) → IsFlatOf source (parts_plain flat.now) → v ≡ judged_after (instances_of source) j 0 (given first.now) (map given following.now) (map given labels.now)) }
@@ -110,16 +110,18 @@ fn judge_parts<'a, T: TakesRows>(
     label: &'a State,
     j: u32,
     run: &'a Run,
+    listed: bool,
     taker: &mut T,
 ) -> Result<Verdict, NoMemory>
     requires model { HasModel flat.now }
     requires label { LabelFits flat.now (given label.now) }
+    requires listed { listed ≡ true → AllListed (parts_plain flat.now).items run.now.states run.now.labels label.now }
     requires few { length run.now.states < 2 ^ 32 }
     requires none { T.took taker.old [] taker.old }
     ensures taken { IfOk result (λ v. v ≡ Yes → HasTaken (λ rows. T.took taker.old rows taker.new) (parts_plain flat.now) label.now run.now.states run.now.labels) }
     ensures verdict { IfOk result (λ v. (source : PlainSource) → IsFlatOf source (parts_plain flat.now) → v ≡ judged_smv source j (map given run.now.states) (map given run.now.labels)) }
 {
-    let order = row_order(alloc, flat)?;
+    let order = row_order(alloc, flat, listed)?;
     let Some((first, following)) = run.states.as_slice().split_first() else {
         return Ok(Verdict::No(0, Clause::ValueOutside));
     };
@@ -144,16 +146,19 @@ fn judge_parts<'a, T: TakesRows>(
 /// Returns the verdict of `judge_flat`, and hands on the rows that it fills.
 ///
 /// With Yes, the taker got one row for each state, in order, under the label of the transition that leaves the state. The
-/// label of the last state gives each input the first value of its type. With No, it may have got some rows.
+/// label of the last state gives each input the first value of its type. With No, it may have got some rows. `listed`
+/// says that each state and label names its variables in the order of the items. Then no name is looked up.
 pub fn judge_rows<T: TakesRows>(
     alloc: Global,
     flat: &Flat,
     j: u32,
     run: &Run,
+    listed: bool,
     taker: &mut T,
 ) -> Result<Verdict, NoMemory>
     requires model { (source : PlainSource) × IsFlatOf source (flat_plain flat.now) }
     requires few { length run.now.states < 2 ^ 32 }
+    requires listed { listed ≡ true → IsListedRun (flat_plain flat.now) run.now }
     requires none { T.took taker.old [] taker.old }
     ensures verdict { IfOk result (λ v. (source : PlainSource) → IsFlatOf source (flat_plain flat.now) → v ≡ judged_smv source j (map given run.now.states) (map given run.now.labels)) }
     // All rows were taken, where the verdict is Yes.
@@ -165,7 +170,7 @@ pub fn judge_rows<T: TakesRows>(
         formulas: flat.formulas().as_slice(),
     };
     let label = first_label(alloc, parts.items)?;
-    judge_parts(alloc, &parts, &label, j, run, taker)
+    judge_parts(alloc, &parts, &label, j, run, listed, taker)
 }
 
 /// Returns the verdict on a stated run for a flat form and invariant j, counted from 0.
@@ -177,7 +182,19 @@ pub fn judge_flat(alloc: Global, flat: &Flat, j: u32, run: &Run) -> Result<Verdi
     requires few { length run.now.states < 2 ^ 32 }
     ensures { IfOk result (λ v. (source : PlainSource) → IsFlatOf source (flat_plain flat.now) → v ≡ judged_smv source j (map given run.now.states) (map given run.now.labels)) }
 {
-    judge_rows(alloc, flat, j, run, &mut NoRows)
+    judge_rows(alloc, flat, j, run, false, &mut NoRows)
+}
+
+/// Returns the verdict of `judge_flat` on a run that names its variables in the order of the items.
+///
+/// `read_trace` returns such runs. No name is looked up.
+pub fn judge_listed(alloc: Global, flat: &Flat, j: u32, run: &Run) -> Result<Verdict, NoMemory>
+    requires model { (source : PlainSource) × IsFlatOf source (flat_plain flat.now) }
+    requires few { length run.now.states < 2 ^ 32 }
+    requires listed { IsListedRun (flat_plain flat.now) run.now }
+    ensures { IfOk result (λ v. (source : PlainSource) → IsFlatOf source (flat_plain flat.now) → v ≡ judged_smv source j (map given run.now.states) (map given run.now.labels)) }
+{
+    judge_rows(alloc, flat, j, run, true, &mut NoRows)
 }
 
 /// Returns the verdict on a stated run for invariant j, counted from 0 (NuSMV 2.6 User Manual, 2.3 and 2.4).

@@ -7,6 +7,6 @@ mod labels;
 mod steps;
 mod taken;
 
-pub use judge::{judge_flat, judge_rows, judge_smv};
+pub use judge::{judge_flat, judge_listed, judge_rows, judge_smv};
 pub use labels::first_label;
 pub use taken::TakesRows;

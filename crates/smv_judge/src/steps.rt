@@ -5,11 +5,10 @@ ghost use Rattle.smv_meaning.specs.Values.{given};
 ghost use Rattle.smv_meaning.specs.Instances.{instances_of};
 ghost use Rattle.smv_flat_laws.specs.FlatTruth.{IsRow, flat_trans, flat_stay};
 ghost use Rattle.smv_flat_evaluation.specs.RowValues.{row_values};
-ghost use Rattle.smv_rows.specs.Held.{HoldsState};
 ghost use Rattle.smv_rows.specs.Parts.{parts_plain};
 ghost use Rattle.smv_rows.specs.RowOrders.{IsRowOrder};
 ghost use Rattle.smv_rows.specs.Truths.{AllSafe};
-ghost use Rattle.smv_judge.specs.Models.{IsFlatOf, HasModel, failing, first_clauses, step_clauses, LabelFits, IsStateRow};
+ghost use Rattle.smv_judge.specs.Models.{IsFlatOf, HasModel, failing, first_clauses, step_clauses, CanGive, LabelFits, IsStateRow};
 
 use crate::fits::items_fit;
 use smv_meaning::State;
@@ -29,11 +28,11 @@ pub(crate) fn first_failure<'a>(
     requires model { HasModel flat.now }
     requires order { IsRowOrder flat.now order.now }
     requires label { LabelFits flat.now (given label.now) }
+    requires listed { CanGive flat.now order.now state.now label.now }
     ensures clause { IfOk result (λ c. (source : PlainSource) → IsFlatOf source (parts_plain flat.now) → c ≡ failing (first_clauses (instances_of source) (given state.now))) }
     ensures row { IfOk result (λ c. c ≡ None → IsStateRow flat.now (given state.now) row.new.values.items) }
-    ensures held { IfOk result (λ c. c ≡ None → HoldsState order.now (given state.now) row.new) }
 {
-    row.give(order, state, label)?;
+    row.give(flat, order, state, label)?;
     if !items_fit(flat.items, row.values.as_slice()) {
         return Ok(Some(Clause::ValueOutside));
     }
@@ -71,17 +70,16 @@ pub(crate) fn step_failure<'a>(
     requires model { HasModel flat.now }
     requires order { IsRowOrder flat.now order.now }
     requires row { IsStateRow flat.now (given state.now) before.old.values.items }
-    requires held { HoldsState order.now (given state.now) before.old }
+    requires listed { CanGive flat.now order.now following.now label.now }
     ensures clause { IfOk result (λ c. (source : PlainSource) → IsFlatOf source (parts_plain flat.now) → c ≡ failing (step_clauses (instances_of source) (given state.now) (given label.now) (given following.now))) }
     ensures row { IfOk result (λ c. c ≡ None → IsStateRow flat.now (given following.now) row.new.values.items) }
-    ensures held { IfOk result (λ c. c ≡ None → HoldsState order.now (given following.now) row.new) }
     ensures before { IfOk result (λ c. c ≡ None → IsRow (parts_plain flat.now) (given state.now) (given label.now) (row_values before.new.values.items)) }
 {
-    row.give(order, following, label)?;
+    row.give(flat, order, following, label)?;
     if !items_fit(flat.items, row.values.as_slice()) {
         return Ok(Some(Clause::ValueOutside));
     }
-    before.give_label(flat, order, row)?;
+    before.give_label(flat, order, row);
     row.evaluate(flat, order);
     if !step_holds(flat, before, row) {
         return Ok(Some(Clause::TransFails));

@@ -12,4 +12,5 @@ pub mod ReadParts
 pub mod VariableRows
 pub mod RowLaw
 pub mod Relabelled
+pub mod Listed
 pub mod FlatOrders

@@ -1,7 +1,8 @@
 pub mod Reading
 pub mod Filling
-pub mod Held
 pub mod Parts
 pub mod Places
 pub mod RowOrders
+pub mod Listed
+pub mod Relabelling
 pub mod Truths

@@ -150,9 +150,9 @@ has_inputs [] = false
 has_inputs (m ∷ ms) = is_input m.kind || has_inputs ms
 
 -- the bodies by the numbers of their items, an order in which each is after the items that it reads, the place of each item's
--- name, and whether there are inputs
+-- name where values are looked up by names, and whether there are inputs
 pub record IsRowOrder (flat : FlatParts) (o : RowOrder) : Type 0 where
   pub bodies : AreItemBodies flat.items.now (parts_plain flat).forms o.bodies.items
   pub order : IsOrderOf o.bodies.items o.order
-  pub places : HavePlaces o.names o.places.items flat.items.now
+  pub places : o.listed ≡ false → HavePlaces o.names o.places.items flat.items.now
   pub inputs : o.inputs ≡ has_inputs flat.items.now

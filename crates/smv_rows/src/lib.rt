@@ -3,6 +3,7 @@
 
 mod bodies;
 mod laws;
+mod listed;
 mod order;
 mod parts;
 mod places;

@@ -15,9 +15,10 @@ use text_core::{List, NoMemory};
 
 /// The data needed to fill rows of a flat form.
 ///
-/// `bodies` has the body of each item, by number, and `order` is the order in which bodies are evaluated. `names` are
-/// the names of the items, and `places` has each item's kind and the place of its name. `inputs` says whether there are
-/// inputs.
+/// `bodies` has the body of each item, by number, and `order` is the order in which bodies are evaluated. `inputs` says
+/// whether there are inputs. `listed` says that states and labels have their values in the order of the items, so that no
+/// name is looked up. Otherwise `names` are the names of the items, and `places` has each item's kind and the place of
+/// its name.
 #[derive(Drop)]
 pub struct RowOrder<'f> {
     pub bodies: Vec<Option<&'f FlatExpr>>,
@@ -25,9 +26,11 @@ pub struct RowOrder<'f> {
     pub names: NameTable,
     pub places: Vec<ItemPlace>,
     pub inputs: bool,
+    pub listed: bool,
 }
 
-fn is_input(kind: ItemKind) -> bool
+/// Returns whether an item of this kind is an input.
+pub(crate) fn is_input(kind: ItemKind) -> bool
     ensures { result ≡ is_input kind }
 {
     match kind {
@@ -54,21 +57,39 @@ fn has_inputs(items: &[FlatItem]) -> bool
 }
 
 /// Returns the data needed to fill rows of the flat form.
-pub fn row_order<'f>(alloc: Global, flat: &FlatParts<'f>) -> Result<RowOrder<'f>, NoMemory>
+///
+/// `listed` says that states and labels will have their values in the order of the items.
+pub fn row_order<'f>(
+    alloc: Global,
+    flat: &FlatParts<'f>,
+    listed: bool,
+) -> Result<RowOrder<'f>, NoMemory>
     requires { IsOrderly (parts_plain flat.now) }
-    ensures { IfOk result (IsRowOrder flat.now) }
+    ensures order { IfOk result (IsRowOrder flat.now) }
+    ensures listed { IfOk result (λ o. o.listed ≡ listed) }
 {
     let bodies = bodies_of(alloc, flat.items, flat.formulas)?;
     let order = order_of(alloc, bodies.as_slice())?;
+    let inputs = has_inputs(flat.items);
     let mut names = NameTable::new(alloc);
+    if listed {
+        return Ok(RowOrder {
+            bodies,
+            order,
+            names,
+            places: Vec::new(alloc),
+            inputs,
+            listed: true,
+        });
+    }
     name_all(alloc, flat.items, &mut names)?;
     let places = places_of(alloc, flat.items, &names)?;
-    let inputs = has_inputs(flat.items);
     Ok(RowOrder {
         bodies,
         order,
         names,
         places,
         inputs,
+        listed: false,
     })
 }

@@ -1,15 +1,18 @@
 // Rows of values, refilled for each state.
 ghost use Rattle.std.specs.Prelude.{◌≡◌, ◌<◌, true, length, nat_lt, OnOk};
 ghost use Rattle.std.specs.List.{list_all};
-ghost use Rattle.smv_meaning.specs.Values.{Valuation, given};
-ghost use Rattle.smv_flat_laws.specs.FlatTruth.{IsRow, symbol_value};
+ghost use Rattle.smv_meaning.specs.Values.{given};
+ghost use Rattle.smv_flat_laws.specs.FlatTruth.{symbol_value};
 ghost use Rattle.smv_flat_evaluation.specs.RowValues.{row_values};
 ghost use Rattle.smv_rows.specs.Filling.{body_plain, bodies_in, with_body, filled, BodySafe, FillsSafely};
-ghost use Rattle.smv_rows.specs.Held.{HoldsState, HoldsLabel, CanRelabel};
+ghost use Rattle.smv_rows.specs.Listed.{AreListed};
 ghost use Rattle.smv_rows.specs.Parts.{parts_plain};
+ghost use Rattle.smv_rows.specs.Places.{IsGiven};
+ghost use Rattle.smv_rows.specs.Relabelling.{CanRelabel, Relabels};
 ghost use Rattle.smv_rows.specs.RowOrders.{IsRowOrder};
 ghost use Rattle.smv_rows.specs.Truths.{Gives, CanFill, Fills};
 
+use crate::listed::{give_inputs, give_listed};
 use crate::order::RowOrder;
 use crate::parts::FlatParts;
 use crate::variables::{give_names, give_variables};
@@ -24,11 +27,14 @@ use text_core::{Names, NoMemory};
 /// The value of each item of a flat form in a state and under a label, by item number.
 ///
 /// A row can be refilled without new memory.
+///
+/// Where values are looked up by names, `state` and `label` have those of the last state and label, by the places of
+/// their names.
 #[derive(Drop)]
 pub struct Row<'a> {
     pub values: Vec<Seen<'a>>,
-    pub state: Vec<Seen<'a>>,
-    pub label: Vec<Seen<'a>>,
+    state: Vec<Seen<'a>>,
+    label: Vec<Seen<'a>>,
     successors: Successors,
 }
 
@@ -43,19 +49,14 @@ impl<'a> Row<'a> {
         }
     }
 
-    /// Sets each state and frozen variable to its value in the state, and each input to its value in the label.
-    ///
-    /// The other items have no value yet. Refilling a row takes no more memory.
-    pub fn give(
+    // Sets the variables to the values that the state and the label have under their names.
+    fn give_named(
         &mut self,
         order: &RowOrder,
         state: &'a State,
         label: &'a State,
     ) -> Result<(), NoMemory>
-        ensures values { OnOk result (Gives order.now (given state.now) (given label.now) self.new.values.items) }
-        // The row stores the values of the state and of the label.
-        ensures state { OnOk result (HoldsState order.now (given state.now) self.new) }
-        ensures label { OnOk result (HoldsLabel order.now (given label.now) self.new) }
+        ensures { OnOk result (Gives order.now (given state.now) (given label.now) self.new.values.items) }
     {
         self.successors.cover(&order.names)?;
         give_names(&order.names, state, &mut self.successors, &mut self.state)?;
@@ -69,6 +70,33 @@ impl<'a> Row<'a> {
         Ok(())
     }
 
+    /// Sets each state and frozen variable to its value in the state, and each input to its value in the label.
+    ///
+    /// The other items have no value yet. Refilling a row takes no more memory.
+    pub fn give(
+        &mut self,
+        flat: &FlatParts<'a>,
+        order: &RowOrder,
+        state: &'a State,
+        label: &'a State,
+    ) -> Result<(), NoMemory>
+        requires order { IsRowOrder flat.now order.now }
+        requires listed { order.now.listed ≡ true → AreListed (parts_plain flat.now).items state.now label.now }
+        ensures { OnOk result (IsGiven flat.now.items.now (given state.now) (given label.now) self.new.values.items) }
+    {
+        if order.listed {
+            give_listed(
+                flat.items,
+                state.as_slice(),
+                label.as_slice(),
+                &mut self.values,
+            )?;
+            Ok(())
+        } else {
+            self.give_named(order, state, label)
+        }
+    }
+
     /// Sets each definition and actual to the value of its body.
     ///
     /// Each body is evaluated once.
@@ -77,7 +105,7 @@ impl<'a> Row<'a> {
         // Each intermediate integer fits 64 bits.
         requires safe { CanFill flat.now self.old.values.items }
         ensures values { Fills flat.now self.old.values.items self.new.values.items }
-        ensures state { self.new.state ≡ self.old.state }
+        ensures size { length self.new.values.items ≡ length self.old.values.items }
     {
         fill_bodies(
             flat.symbols,
@@ -87,39 +115,20 @@ impl<'a> Row<'a> {
         );
     }
 
-    // Sets each variable to its value in this row's state, and each input to its value in the other row's label.
-    fn give_again(&mut self, order: &RowOrder, other: &Row<'a>) -> Result<(), NoMemory>
-        ensures { OnOk result ((state label : Valuation) → HoldsState order.now state self.old → HoldsLabel order.now label other.now → Gives order.now state label self.new.values.items) }
-    {
-        give_variables(
-            order.places.as_slice(),
-            self.state.as_slice(),
-            other.label.as_slice(),
-            &mut self.values,
-        )?;
-        Ok(())
-    }
-
-    /// Turns the row of a state under any label into its row under the other row's label.
+    /// Turns the row of a state under any label into its row under the label whose inputs the other row has.
     ///
     /// Without inputs nothing changes.
-    pub fn give_label(
-        &mut self,
-        flat: &FlatParts<'a>,
-        order: &RowOrder,
-        other: &Row<'a>,
-    ) -> Result<(), NoMemory>
+    pub fn give_label(&mut self, flat: &FlatParts<'a>, order: &RowOrder, other: &Row<'a>)
         requires order { IsRowOrder flat.now order.now }
         // Each intermediate integer fits 64 bits.
-        requires safe { CanRelabel flat.now order.now self.old other.now }
-        ensures { OnOk result ((state label before : Valuation) → HoldsState order.now state self.old → HoldsLabel order.now label other.now → IsRow (parts_plain flat.now) state before (row_values self.old.values.items) → IsRow (parts_plain flat.now) state label (row_values self.new.values.items)) }
+        requires safe { CanRelabel flat.now self.old.values.items other.now.values.items }
+        ensures size { length self.new.values.items ≡ length self.old.values.items }
+        ensures row { Relabels flat.now self.old.values.items other.now.values.items self.new.values.items }
     {
-        if !order.inputs {
-            return Ok(());
+        if order.inputs {
+            give_inputs(flat.items, other.values.as_slice(), &mut self.values);
+            self.evaluate(flat, order);
         }
-        self.give_again(order, other)?;
-        self.evaluate(flat, order);
-        Ok(())
     }
 }
 
@@ -133,7 +142,8 @@ fn fill_bodies<'a>(
     requires size { length values.old.items ≡ length bodies.now }
     requires within { list_all (λ k. nat_lt k (length bodies.now)) order.now ≡ true }
     requires safe { FillsSafely (bodies_in bodies.now) (symbol_value symbols.now) (row_values values.old.items) order.now }
-    ensures { row_values values.new.items ≡ filled (bodies_in bodies.now) (symbol_value symbols.now) (row_values values.old.items) order.now }
+    ensures size { length values.new.items ≡ length values.old.items }
+    ensures row { row_values values.new.items ≡ filled (bodies_in bodies.now) (symbol_value symbols.now) (row_values values.old.items) order.now }
 {
     let mut rest = order;
     while let Some((k, more)) = rest.split_first() {

@@ -31,7 +31,7 @@ use Rattle.smv_script.specs.Script.{place_of_item, coding_of, invar_item, body_p
 use Rattle.smv_script_laws.proofs.Places.{has_place_law}
 use Rattle.smv_script_laws.specs.Kinds.{IsKnown, IsOfKind}
 use Rattle.smv_script_laws.specs.TermLaws.{IsDatum}
-use Rattle.smv_script_laws.proofs.ValueLaws.{data_come_back_law}
+use Rattle.smv_script_laws.proofs.ValueLaws.{data_round_trip_law}
 use Rattle.smv_script_laws.specs.Decoding.{is_of_state, is_of_label, decoded_state, decoded_label}
 use Rattle.smv_script_laws.specs.EnvironmentLaws.{SuitsSystem, ItemsHold, IsEnvironmentOfDecoded}
 use Rattle.smv_accepted.proofs.Fitting.{content_fits, origin_fits, values_fit_so}
@@ -87,7 +87,7 @@ module _ (t : List Instance) (width : ℕ) (model : Model t width) (fresh : are_
   coded_at : (k : ℕ) (m : Origin) → slice_get (origins_of t) k ≡ Some m → env (place k) ≡ datum_of width (symbols_of t) (row k)
   coded_at k m h =
       sym (ap (datum_of width (symbols_of t)) (row_at k m h)
-      ∙ data_come_back_law width (symbols_of t) model.some (symbols_are_distinct_law t) (flat_item_of t m).type (env (place k)) (is_datum k m h))
+      ∙ data_round_trip_law width (symbols_of t) model.some (symbols_are_distinct_law t) (flat_item_of t m).type (env (place k)) (is_datum k m h))
 
   codes : IsCoded t width place row env
   codes = record {

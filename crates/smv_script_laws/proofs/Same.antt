@@ -34,7 +34,7 @@ use Rattle.smv_script.specs.Codes.{value_of}
 use Rattle.smv_script.specs.Operators.{equal_term}
 use Rattle.smv_script.specs.Terms.{Coding, translation}
 use Rattle.smv_script.specs.Script.{body_part, body_parts}
-use Rattle.smv_script_laws.proofs.ValueLaws.{values_come_back_law}
+use Rattle.smv_script_laws.proofs.ValueLaws.{values_round_trip_law}
 use Rattle.smv_script_laws.proofs.Bodies.{all_left, all_right, IsBody, IsGood}
 use Rattle.smv_script_laws.proofs.Domains.{same_datum, truth_is}
 use Rattle.smv_script_laws.proofs.Models.{Model, item_typed, item_forms, item_width, found_origin, IsCoded}
@@ -96,7 +96,7 @@ module _ (t : List Instance) (c : Coding) (calls : Calls) (row : Row) (env : Val
       let v = (denote (values_in t state label j) (values_in t state label j) e).value in
       let s = body_says t c meets.model.some calls row env meets.codes state label meets.fit j e b wide y.type (sym type ∙ y.has) r in
       meets.decoded k m y.type h y.has ∙ ap (value_of (symbols_of t) y.type) (equation ∙ s.value refl [])
-      ∙ values_come_back_law c.width (symbols_of t) meets.model.some y.type v (s.kind refl)
+      ∙ values_round_trip_law c.width (symbols_of t) meets.model.some y.type v (s.kind refl)
 
   content_row : (k : ℕ) (m : Origin) → slice_get (origins_of t) k ≡ Some m → (x : Content) → m.content ≡ x → ContentReads t row state label x → row k ≡ content_value t state label (path_of t m) x
   content_row k m h (variable kind d) e r = meets.variables k m kind d h e

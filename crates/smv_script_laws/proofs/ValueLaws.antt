@@ -97,17 +97,17 @@ terms_have_values_law t a c some state label following other now later calls fir
 
 -- ---- codes
 
-pub values_come_back_law : ValuesRoundTrip
-values_come_back_law width symbols some truth_type (Truth b) h = refl
-values_come_back_law width symbols some truth_type v h = absurd h
-values_come_back_law width symbols some (integer_type low high) (Integer z) h = ap Integer (signed_back width z some h)
-values_come_back_law width symbols some (integer_type low high) v h = absurd h
-values_come_back_law width symbols some symbol_type (Symbol s) h =
+pub values_round_trip_law : ValuesRoundTrip
+values_round_trip_law width symbols some truth_type (Truth b) h = refl
+values_round_trip_law width symbols some truth_type v h = absurd h
+values_round_trip_law width symbols some (integer_type low high) (Integer z) h = ap Integer (signed_back width z some h)
+values_round_trip_law width symbols some (integer_type low high) v h = absurd h
+values_round_trip_law width symbols some symbol_type (Symbol s) h =
     let p = position-Some (bytes_eq s) symbols h.0 [] h.1 in
     ap (λ n. symbol_value symbols n) (ap number_or_zero h.1) ∙ ap symbol_or_none (slice_get-get_or symbols h.0 [] p.0) ∙ ap Symbol (sym ((bytes_eq-Decides s (get_or symbols h.0 [])).0 p.1))
-values_come_back_law width symbols some symbol_type v h = absurd h
-values_come_back_law width symbols some (word_type n) (Bits w) h = refl
-values_come_back_law width symbols some (word_type n) v h = absurd h
+values_round_trip_law width symbols some symbol_type v h = absurd h
+values_round_trip_law width symbols some (word_type n) (Bits w) h = refl
+values_round_trip_law width symbols some (word_type n) v h = absurd h
 
 bits_back : (w b : ℕ) → b < 2 ^ w → integer_bits w (signed_value w b) ≡ b
 bits_back w b h = by (nat_lt b (2 ^ (w - 1))) ∙ mod-eq_of_lt h
@@ -116,17 +116,17 @@ bits_back w b h = by (nat_lt b (2 ^ (w - 1))) ∙ mod-eq_of_lt h
     by true = refl
     by false = same_code w (pos b -ℤ pos (2 ^ w)) (pos b) 1 0 (omega (arith, ints))
 
-pub data_come_back_law : DataRoundTrip
-data_come_back_law width symbols some once truth_type (datum.Truth b) h = refl
-data_come_back_law width symbols some once truth_type d h = absurd h
-data_come_back_law width symbols some once (integer_type low high) (datum.Bits w) h =
+pub data_round_trip_law : DataRoundTrip
+data_round_trip_law width symbols some once truth_type (datum.Truth b) h = refl
+data_round_trip_law width symbols some once truth_type d h = absurd h
+data_round_trip_law width symbols some once (integer_type low high) (datum.Bits w) h =
     ap (λ n. datum.Bits (word width (integer_bits width (signed_value n w.bits)))) h.0
     ∙ ap (λ n. datum.Bits (word width n)) (bits_back width w.bits (subst (λ n. w.bits < 2 ^ n) h.0 h.1.2)) ∙ ap (λ n. datum.Bits (word n w.bits)) (sym h.0)
-data_come_back_law width symbols some once (integer_type low high) d h = absurd h
-data_come_back_law width symbols some once symbol_type (datum.Constant n i) h =
+data_round_trip_law width symbols some once (integer_type low high) d h = absurd h
+data_round_trip_law width symbols some once symbol_type (datum.Constant n i) h =
     let y = get_or symbols i [] in
     let e = slice_get-get_or symbols i [] h.1 in
     ap (λ v. datum_of width symbols v) (ap symbol_or_none e) ∙ ap (λ k. datum.Constant 0 (number_or_zero k)) (once i y e) ∙ ap (λ k. datum.Constant k i) (sym h.0)
-data_come_back_law width symbols some once symbol_type d h = absurd h
-data_come_back_law width symbols some once (word_type n) (datum.Bits w) h = refl
-data_come_back_law width symbols some once (word_type n) d h = absurd h
+data_round_trip_law width symbols some once symbol_type d h = absurd h
+data_round_trip_law width symbols some once (word_type n) (datum.Bits w) h = refl
+data_round_trip_law width symbols some once (word_type n) d h = absurd h

@@ -22,5 +22,5 @@ pub use formula_laws::{forms_say, formula_splits, items_say};
 pub use place_laws::{item_has_place, place_is_of_item, places_differ};
 pub use run_laws::runs_are_traces;
 pub use sort_laws::terms_are_well_scoped;
-pub use term_laws::{data_come_back, terms_have_values, values_come_back};
+pub use term_laws::{data_round_trip, terms_have_values, values_round_trip};
 pub use whole_laws::{names_are_spellable, scripts_are_spelled, scripts_are_valid};

@@ -13,11 +13,11 @@ pub fn terms_have_values()
 /// Proves that decoding the datum of a value returns the value.
 ///
 /// The width represents the integers of the value's type, and its symbols are the model's.
-pub fn values_come_back()
+pub fn values_round_trip()
     ensures { ValuesRoundTrip }
 {}
 
 /// Proves that encoding the decoded value of a datum of a type's sort returns the datum.
-pub fn data_come_back()
+pub fn data_round_trip()
     ensures { DataRoundTrip }
 {}

@@ -347,8 +347,8 @@ module _ (back : ValuesRoundTrip) (source : PlainSource) (needed : ℕ) (read : 
 
 -- ---- the law
 
-pub lowered_come_back_law : YesIsRun → LoweredAreLifted → ValuesRoundTrip → LoweredRoundTrip
-lowered_come_back_law runs lifts back source needed read accepted j run stated verdict =
+pub lowered_round_trip_law : YesIsRun → LoweredAreLifted → ValuesRoundTrip → LoweredRoundTrip
+lowered_round_trip_law runs lifts back source needed read accepted j run stated verdict =
     let is = ((runs source j (map given run.states) (map given run.labels)).0 verdict).0 in
     let envs = steps_in source run.states run.labels in
     ap (λ (es : List (List Datum)). decoded_run source (trace_of es) (length es - 1)) (lifts (model_system source) j envs (run_steps source needed read accepted run is))

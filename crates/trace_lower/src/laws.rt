@@ -4,7 +4,7 @@ ghost use Rattle.trace_lower.specs.Laws.{LoweredAreAccepted, LoweredRoundTrip};
 use moxi_flat::traces_have_flat_traces;
 use moxi_lower::{lowered_are_judged, lowered_are_lifted, lowered_are_witnesses};
 use smv_laws::yes_is_run;
-use smv_script_laws::{scripts_are_valid, values_come_back};
+use smv_script_laws::{scripts_are_valid, values_round_trip};
 
 /// Proves that the judge accepts the witness of a run that breaks an invariant.
 ///
@@ -20,10 +20,10 @@ pub fn lowered_are_accepted()
 }
 
 /// Proves that this witness is lifted to the same run.
-pub fn lowered_come_back()
+pub fn lowered_round_trip()
     ensures { LoweredRoundTrip }
 {
     yes_is_run();
     lowered_are_lifted();
-    values_come_back();
+    values_round_trip();
 }

@@ -6,5 +6,5 @@ mod laws;
 mod lower;
 mod words;
 
-pub use laws::{lowered_are_accepted, lowered_come_back};
+pub use laws::{lowered_are_accepted, lowered_round_trip};
 pub use lower::{LowerEnd, lower_flat, lower_smv};

@@ -1,11 +1,12 @@
 // The witness that states a run.
-ghost use Rattle.std.specs.Prelude.{◌≡◌, ◌<◌, ◌^◌, ◌++◌, map, length, IfOk, IfErr};
+ghost use Rattle.std.specs.Prelude.{◌≡◌, ◌<◌, ◌^◌, ◌++◌, true, map, length, IfOk, IfErr};
 ghost use Rattle.text_core.specs.declared.verdict.Verdict.TheVariants.{Yes};
 ghost use Rattle.smv_text.specs.Tree.{PlainSource};
 ghost use Rattle.smv_text.specs.View.{plain_source};
 ghost use Rattle.smv_meaning.specs.Phases.{IsAccepted};
 ghost use Rattle.smv_items.specs.FlatItemView.{item_plain};
-ghost use Rattle.smv_flatten.specs.FlatModel.{IsRead};
+ghost use Rattle.smv_flatten.specs.FlatModel.{IsRead, flat_plain};
+ghost use Rattle.smv_judge.specs.Models.{IsListedRun};
 ghost use Rattle.witness_lift.specs.Breaking.{IsFormOf};
 ghost use Rattle.trace_lower.specs.Ends.{HasForm, IsLowerEnd};
 ghost use Rattle.trace_lower.specs.Lowered.{lowered, verdict_on};
@@ -70,10 +71,18 @@ impl<'a> TakesRows for FrameRows<'a> {
 /// has the first value of its type.
 ///
 /// `Err` is the judge's verdict where it says No to the run and invariant j, with the step and the clause. Otherwise
-/// `Err` is out of memory. Time and memory are linear in the states times the items.
-pub fn lower_flat(alloc: Global, flat: &Flat, j: u32, run: &Run) -> Result<Witness, LowerEnd>
+/// `Err` is out of memory. Time and memory are linear in the states times the items. `listed` says that each state and
+/// label names its variables in the order of the items, so that the judge looks no name up.
+pub fn lower_flat(
+    alloc: Global,
+    flat: &Flat,
+    j: u32,
+    run: &Run,
+    listed: bool,
+) -> Result<Witness, LowerEnd>
     requires model { HasForm flat.now }
     requires few { length run.now.states < 2 ^ 32 }
+    requires listed { listed ≡ true → IsListedRun (flat_plain flat.now) run.now }
     ensures lowered { IfOk result (λ w. (source : PlainSource) → IsFormOf source flat.now → w ≡ lowered source j run.now) }
     ensures judged { IfOk result (λ w. (source : PlainSource) → IsFormOf source flat.now → verdict_on source j run.now ≡ Yes) }
     ensures refused { IfErr result (λ e. (source : PlainSource) → IsFormOf source flat.now → IsLowerEnd source j run.now e) }
@@ -86,7 +95,7 @@ pub fn lower_flat(alloc: Global, flat: &Flat, j: u32, run: &Run) -> Result<Witne
         coder: &coder,
         frames,
     };
-    match judge_rows(alloc, flat, j, run, &mut rows)? {
+    match judge_rows(alloc, flat, j, run, listed, &mut rows)? {
         Verdict::Yes => Ok(Witness {
             bad: j,
             frames: rows.frames,
@@ -109,7 +118,7 @@ pub fn lower_smv(alloc: Global, source: &Source, j: u32, run: &Run) -> Result<Wi
     ensures refused { IfErr result (IsLowerEnd (plain_source source.now) j run.now) }
 {
     match flatten(alloc, source, j) {
-        Ok(flat) => lower_flat(alloc, &flat, j, run),
+        Ok(flat) => lower_flat(alloc, &flat, j, run, false),
         Err(FlatEnd::Bad(_)) => unreachable!(),
         Err(FlatEnd::NoMemory) => Err(LowerEnd::NoMemory),
     }

@@ -1,9 +1,16 @@
 use Rattle.std.proofs.Common.{◌≡◌, sym, subst}
 use Rattle.text_core.specs.declared.verdict.Verdict.TheVariants.{Yes}
+use Rattle.smv_flatten.specs.FlatModel.{FlatModel, flat_plain}
+use Rattle.smv_judge.specs.Models.{IsListedRun}
 use Rattle.witness_lift.specs.Breaking.{IsFormOf}
 use Rattle.trace_lower.specs.Lowered.{lowered, verdict_on}
+use Rattle.smv_commands.proofs.ListedRuns.{stated_listed}
 use Rattle.smv_commands.proofs.LoweredRuns.{OfForms, lowered_fits, said_rejected, said_lowered}
 use Rattle.smv_commands.proofs.lower.run_answer.Goals as goal
+
+pub lower_flat-requires-clause-listed : goal.lower_flat-requires-clause-listed
+lower_flat-requires-clause-listed c = λ is.
+    subst (λ (f : FlatModel). IsListedRun (flat_plain f) c.args.run.now) (sym c.flat.ensures) (stated_listed c.args.chain.now c.args.run.now c.requires.stated)
 
 pub print_witness-requires : goal.print_witness-requires
 print_witness-requires c =

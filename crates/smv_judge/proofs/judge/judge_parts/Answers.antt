@@ -1,11 +1,22 @@
 use Rattle.std.proofs.Common.{◌∷◌, sym, ◌∙◌}
 use Rattle.smv_rows.specs.Parts.{parts_plain}
 use Rattle.smv_judge.proofs.StepLaws.{is_orderly, parts_told}
+use Rattle.smv_judge.proofs.ListedLaws.{first_can, states_are}
 use Rattle.smv_judge.proofs.Takes.{parts_taken}
 use Rattle.smv_judge.proofs.judge.judge_parts.Goals as goal
 
 pub row_order-requires : goal.row_order-requires
 row_order-requires g c = is_orderly (parts_plain c.args.flat.now) c.requires.model.0 c.requires.model.1
+
+pub first_failure-requires-clause-listed : goal.first_failure-requires-clause-listed
+first_failure-requires-clause-listed g c =
+    first_can c.args.flat.now c.in_ok-order.order c.in-Some.first.now c.in-Some.following.now c.args.run.now.states c.args.run.now.labels c.args.label.now (sym c.as_slice.ensures ∙ c.in-Some.ensures.cases.0)
+    (λ is. c.requires.listed (sym c.in_ok-order.ensures.listed ∙ is))
+
+pub judge_steps-requires-clause-listed : goal.judge_steps-requires-clause-listed
+judge_steps-requires-clause-listed g c = λ is.
+    states_are (parts_plain c.args.flat.now).items (c.in-Some.first.now ∷ c.in-Some.following.now) c.args.run.now.states c.as_slice-in-None.result.now c.args.run.now.labels c.args.label.now
+    (sym c.as_slice.ensures ∙ c.in-Some.ensures.cases.0) c.as_slice-in-None.ensures (c.requires.listed (sym c.in_ok-order.ensures.listed ∙ is))
 
 pub returns-clause-verdict : goal.returns-clause-verdict
 returns-clause-verdict g c =

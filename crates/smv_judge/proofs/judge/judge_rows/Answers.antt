@@ -3,9 +3,13 @@ use Rattle.smv_meaning.specs.declared.value.Given.{Given}
 use Rattle.smv_meaning.specs.Values.{given}
 use Rattle.smv_meaning.specs.Instances.{instances_of}
 use Rattle.smv_meaning.specs.Runs.{label_fits}
+use Rattle.smv_judge.proofs.ListedLaws.{run_listed}
 use Rattle.smv_judge.proofs.StepLaws.{own_label}
 use Rattle.smv_judge.proofs.judge.judge_rows.Goals as goal
 
 pub judge_parts-requires-clause-label : goal.judge_parts-requires-clause-label
 judge_parts-requires-clause-label g c = λ source k.
     subst (λ (g : List Given). IsTrue (label_fits (instances_of source) (given g))) (sym c.in_ok-label.ensures) (own_label _ source k)
+
+pub judge_parts-requires-clause-listed : goal.judge_parts-requires-clause-listed
+judge_parts-requires-clause-listed g c = λ is. run_listed _ c.requires.model.0 c.requires.model.1 c.args.run.now c.in_ok-label.label c.in_ok-label.ensures (c.requires.listed is)

@@ -1,4 +1,4 @@
-use Rattle.std.proofs.Common.{◌+◌, true, false, List, ◌∷◌, map, length, ap, sym, ◌∙◌, subst, arith}
+use Rattle.std.proofs.Common.{◌+◌, true, false, List, ◌∷◌, map, length, refl, ap, sym, ◌∙◌, subst, arith}
 use Rattle.smv_meaning.specs.declared.value.Given.{Given}
 use Rattle.smv_meaning.specs.Values.{given}
 use Rattle.smv_meaning.specs.Instances.{instances_of}
@@ -8,6 +8,7 @@ use Rattle.smv_flat_evaluation.specs.RowValues.{row_values}
 use Rattle.smv_rows.specs.Parts.{parts_plain}
 use Rattle.smv_judge.specs.Models.{step_clauses}
 use Rattle.smv_judge.proofs.StepLaws.{truth_is, rows_safe, rows_true, outside_end, broken_end, none_said, some_said}
+use Rattle.smv_judge.proofs.ListedLaws.{first_can, next_can, rest_listed}
 use Rattle.smv_judge.proofs.Takes.{TakenBefore, all_taken, one_taken}
 use Rattle.smv_judge.proofs.judge.judge_steps.Goals as goal
 
@@ -57,7 +58,7 @@ loop-next-preserved g c =
     record {
       count = omega (arith, i.count, ap length states);
       row = c.in_ok-clause.ensures.row c.in-None.is;
-      held = c.in_ok-clause.ensures.held c.in-None.is;
+      listed = λ is. rest_listed flat.items c.loop-next.state.now c.in-Some.next.now c.in-Some-split_first.label.now c.args.last.now c.loop-next.states.now us c.loop-next.labels.now ls states labels (i.listed is);
       taken = one_taken (λ rows. g.T.TakesRows.took c.args.taker.now rows c.loop-next.taker) (λ rows. g.T.TakesRows.took c.args.taker.now rows c.take_row.new.self) flat c.args.last.now (c.args.first.now ∷ c.args.following.now) c.args.labels.now c.loop-next.state.now c.in-Some-split_first.label.now (c.in-Some.next.now ∷ us) ls
           (row_values c.as_slice.result.now) (subst (λ vs. IsRow flat s l (row_values vs)) (sym c.as_slice.ensures.value) (c.in_ok-clause.ensures.before c.in-None.is)) (c.in_ok-take_row.ensures c.args.taker.now)
           (subst (λ (xs : List (List Given)). TakenBefore (λ rows. g.T.TakesRows.took c.args.taker.now rows c.loop-next.taker) flat c.args.last.now (c.args.first.now ∷ c.args.following.now) c.args.labels.now (c.loop-next.state.now ∷ c.in-Some.next.now ∷ us) xs) labels
@@ -84,6 +85,15 @@ returns-in-Some-2-clause-verdict g c = λ source k.
     ∙ sym (ap (λ (xs : List (List Given)). judged_after t c.args.j c.loop-next.step s (map given xs) (map given c.loop-next.labels.now)) c.in-Some.ensures.cases.0
     ∙ ap (λ (xs : List (List Given)). judged_after t c.args.j c.loop-next.step s (map given (c.in-Some.next.now ∷ us)) (map given xs)) c.in-Some-split_first.ensures.cases.0)
     ∙ c.loop-next.invariant.same source k
+
+pub take_last-requires-clause-listed : goal.take_last-requires-clause-listed
+take_last-requires-clause-listed g c =
+    first_can c.args.flat.now c.args.order.now c.loop-next.state.now c.loop-next.states.now (c.loop-next.state.now ∷ c.loop-next.states.now) c.loop-next.labels.now c.args.last.now refl c.loop-next.invariant.listed
+
+pub step_failure-requires-clause-listed : goal.step_failure-requires-clause-listed
+step_failure-requires-clause-listed g c =
+    next_can c.args.flat.now c.args.order.now c.loop-next.state.now c.in-Some.next.now c.in-Some-split_first.label.now c.args.last.now c.loop-next.states.now c.in-Some.others.now c.loop-next.labels.now c.in-Some-split_first.more.now
+    c.in-Some.ensures.cases.0 c.in-Some-split_first.ensures.cases.0 c.loop-next.invariant.listed
 
 pub take_last-requires-clause-state : goal.take_last-requires-clause-state
 take_last-requires-clause-state g c = c.loop-next.invariant.row.state_fits

@@ -1,4 +1,4 @@
-use Rattle.std.proofs.Common.{◌≡◌, Bool, true, false, IsTrue}
+use Rattle.std.proofs.Common.{◌≡◌, Bool, true, false, IsTrue, ◌∙◌}
 use Rattle.text_core.specs.declared.verdict.Clause.TheVariants.{ValueOutside, InitFails, InvarFails}
 use Rattle.smv_text.specs.Tree.{PlainSource}
 use Rattle.smv_meaning.specs.Values.{given}
@@ -16,7 +16,7 @@ returns-then-not-items_fit-clause-clause c =
     let flat = c.args.flat.now in
     let m = c.requires.model in
     let values = c.give.new.self.values.items in
-    let g = c.in_ok-give.ensures.values flat.items.now c.requires.order.places in
+    let g = c.in_ok-give.ensures in
     let s = given c.args.state.now in
     let l = given c.args.label.now in
     let unfit = told flat values c.as_slice.result.now c.items_fit.result false c.as_slice.ensures.value c.items_fit.ensures c.if-not-items_fit.true in
@@ -27,7 +27,7 @@ evaluate-requires-clause-safe c =
     let flat = c.args.flat.now in
     let m = c.requires.model in
     let values = c.give.new.self.values.items in
-    let g = c.in_ok-give.ensures.values flat.items.now c.requires.order.places in
+    let g = c.in_ok-give.ensures in
     let s = given c.args.state.now in
     let l = given c.args.label.now in
     let fits = told flat values c.as_slice.result.now c.items_fit.result true c.as_slice.ensures.value c.items_fit.ensures c.if-not-items_fit.false in
@@ -38,7 +38,7 @@ init_holds-requires c =
     let flat = c.args.flat.now in
     let m = c.requires.model in
     let values = c.give.new.self.values.items in
-    let g = c.in_ok-give.ensures.values flat.items.now c.requires.order.places in
+    let g = c.in_ok-give.ensures in
     let s = given c.args.state.now in
     let l = given c.args.label.now in
     let fits = told flat values c.as_slice.result.now c.items_fit.result true c.as_slice.ensures.value c.items_fit.ensures c.if-not-items_fit.false in
@@ -52,7 +52,7 @@ returns-then-not-init_holds-clause-clause c =
     let flat = c.args.flat.now in
     let m = c.requires.model in
     let values = c.give.new.self.values.items in
-    let g = c.in_ok-give.ensures.values flat.items.now c.requires.order.places in
+    let g = c.in_ok-give.ensures in
     let s = given c.args.state.now in
     let l = given c.args.label.now in
     let fits = told flat values c.as_slice.result.now c.items_fit.result true c.as_slice.ensures.value c.items_fit.ensures c.if-not-items_fit.false in
@@ -70,7 +70,7 @@ invar_holds-requires c =
     let flat = c.args.flat.now in
     let m = c.requires.model in
     let values = c.give.new.self.values.items in
-    let g = c.in_ok-give.ensures.values flat.items.now c.requires.order.places in
+    let g = c.in_ok-give.ensures in
     let s = given c.args.state.now in
     let l = given c.args.label.now in
     let fits = told flat values c.as_slice.result.now c.items_fit.result true c.as_slice.ensures.value c.items_fit.ensures c.if-not-items_fit.false in
@@ -84,7 +84,7 @@ returns-then-not-invar_holds-clause-clause c =
     let flat = c.args.flat.now in
     let m = c.requires.model in
     let values = c.give.new.self.values.items in
-    let g = c.in_ok-give.ensures.values flat.items.now c.requires.order.places in
+    let g = c.in_ok-give.ensures in
     let s = given c.args.state.now in
     let l = given c.args.label.now in
     let fits = told flat values c.as_slice.result.now c.items_fit.result true c.as_slice.ensures.value c.items_fit.ensures c.if-not-items_fit.false in
@@ -104,7 +104,7 @@ returns-clause-clause c =
     let flat = c.args.flat.now in
     let m = c.requires.model in
     let values = c.give.new.self.values.items in
-    let g = c.in_ok-give.ensures.values flat.items.now c.requires.order.places in
+    let g = c.in_ok-give.ensures in
     let s = given c.args.state.now in
     let l = given c.args.label.now in
     let fits = told flat values c.as_slice.result.now c.items_fit.result true c.as_slice.ensures.value c.items_fit.ensures c.if-not-items_fit.false in
@@ -124,11 +124,11 @@ returns-clause-row c =
     let flat = c.args.flat.now in
     let m = c.requires.model in
     let values = c.give.new.self.values.items in
-    let g = c.in_ok-give.ensures.values flat.items.now c.requires.order.places in
+    let g = c.in_ok-give.ensures in
     let s = given c.args.state.now in
     let l = given c.args.label.now in
     let fits = told flat values c.as_slice.result.now c.items_fit.result true c.as_slice.ensures.value c.items_fit.ensures c.if-not-items_fit.false in
     let new = c.evaluate.new.self.values.items in
     let row = c.evaluate.ensures.values s l g in
     let state : (source : PlainSource) → IsFlatOf source (parts_plain flat) → IsTrue (state_fits (instances_of source) s) = λ source k. (both_fit flat source k s l values g fits).0 in
-    λ e. record { label = l; row = row; state_fits = state; label_fits = c.requires.label }
+    λ e. record { size = c.evaluate.ensures.size ∙ g.size; label = l; row = row; state_fits = state; label_fits = c.requires.label }

@@ -1,4 +1,4 @@
-use Rattle.std.proofs.Common.{◌≡◌, Bool, true, false, ◌&&◌, IsTrue}
+use Rattle.std.proofs.Common.{◌≡◌, Bool, true, false, ◌&&◌, IsTrue, ◌∙◌}
 use Rattle.text_core.specs.declared.verdict.Clause.TheVariants.{ValueOutside, TransFails, InvarFails}
 use Rattle.smv_text.specs.Tree.{PlainSource}
 use Rattle.smv_meaning.specs.Values.{given}
@@ -16,7 +16,7 @@ returns-then-not-items_fit-clause-clause c =
     let flat = c.args.flat.now in
     let m = c.requires.model in
     let values = c.give.new.self.values.items in
-    let g = c.in_ok-give.ensures.values flat.items.now c.requires.order.places in
+    let g = c.in_ok-give.ensures in
     let s = given c.args.state.now in
     let l = given c.args.label.now in
     let u = given c.args.following.now in
@@ -28,7 +28,7 @@ evaluate-requires-clause-safe c =
     let flat = c.args.flat.now in
     let m = c.requires.model in
     let values = c.give.new.self.values.items in
-    let g = c.in_ok-give.ensures.values flat.items.now c.requires.order.places in
+    let g = c.in_ok-give.ensures in
     let s = given c.args.state.now in
     let l = given c.args.label.now in
     let u = given c.args.following.now in
@@ -40,19 +40,19 @@ give_label-requires-clause-safe c =
     let flat = c.args.flat.now in
     let m = c.requires.model in
     let values = c.give.new.self.values.items in
-    let g = c.in_ok-give.ensures.values flat.items.now c.requires.order.places in
+    let g = c.in_ok-give.ensures in
     let s = given c.args.state.now in
     let l = given c.args.label.now in
     let u = given c.args.following.now in
     let fits = told flat values c.as_slice.result.now c.items_fit.result true c.as_slice.ensures.value c.items_fit.ensures c.if-not-items_fit.false in
-    (s, l, c.requires.held, c.in_ok-give.ensures.label, all_safe flat m s l c.requires.row.state_fits (λ source k. (both_fit flat source k u l values g fits).1))
+    record { size = c.requires.row.size; state = s; before = c.requires.row.label; label = l; after = u; row = c.requires.row.row; given = g; safe = all_safe flat m s l c.requires.row.state_fits (λ source k. (both_fit flat source k u l values g fits).1) }
 
 pub step_holds-requires : goal.step_holds-requires
 step_holds-requires c =
     let flat = c.args.flat.now in
     let m = c.requires.model in
     let values = c.give.new.self.values.items in
-    let g = c.in_ok-give.ensures.values flat.items.now c.requires.order.places in
+    let g = c.in_ok-give.ensures in
     let s = given c.args.state.now in
     let l = given c.args.label.now in
     let u = given c.args.following.now in
@@ -64,7 +64,7 @@ step_holds-requires c =
     let values_fit : (source : PlainSource) → IsFlatOf source (parts_plain flat) → (state_fits (instances_of source) u && label_fits (instances_of source) l) ≡ true =
     λ source k. both_same _ _ true true (state source k) (label source k) in
     let old = c.give_label.new.self.values.items in
-    let before = c.in_ok-give_label.ensures s l c.requires.row.label c.requires.held c.in_ok-give.ensures.label c.requires.row.row in
+    let before = c.give_label.ensures.row s c.requires.row.label l u c.requires.row.row g in
     rows_safe flat m.0 m.1 s l u l (c.requires.row.state_fits m.0 m.1) (label m.0 m.1) (state m.0 m.1) (label m.0 m.1) (row_values old) (row_values new) before row
 
 pub returns-then-not-step_holds-clause-clause : goal.returns-then-not-step_holds-clause-clause
@@ -72,7 +72,7 @@ returns-then-not-step_holds-clause-clause c =
     let flat = c.args.flat.now in
     let m = c.requires.model in
     let values = c.give.new.self.values.items in
-    let g = c.in_ok-give.ensures.values flat.items.now c.requires.order.places in
+    let g = c.in_ok-give.ensures in
     let s = given c.args.state.now in
     let l = given c.args.label.now in
     let u = given c.args.following.now in
@@ -84,7 +84,7 @@ returns-then-not-step_holds-clause-clause c =
     let values_fit : (source : PlainSource) → IsFlatOf source (parts_plain flat) → (state_fits (instances_of source) u && label_fits (instances_of source) l) ≡ true =
     λ source k. both_same _ _ true true (state source k) (label source k) in
     let old = c.give_label.new.self.values.items in
-    let before = c.in_ok-give_label.ensures s l c.requires.row.label c.requires.held c.in_ok-give.ensures.label c.requires.row.row in
+    let before = c.give_label.ensures.row s c.requires.row.label l u c.requires.row.row g in
     let goes : (b : Bool) → c.step_holds.result ≡ b → (source : PlainSource) → IsFlatOf source (parts_plain flat) → step_holds (instances_of source) s l u ≡ b =
     λ b e source k.
     let h = rows_true flat source k s l u l (row_values old) (row_values new) before row in
@@ -96,7 +96,7 @@ invar_holds-requires c =
     let flat = c.args.flat.now in
     let m = c.requires.model in
     let values = c.give.new.self.values.items in
-    let g = c.in_ok-give.ensures.values flat.items.now c.requires.order.places in
+    let g = c.in_ok-give.ensures in
     let s = given c.args.state.now in
     let l = given c.args.label.now in
     let u = given c.args.following.now in
@@ -114,7 +114,7 @@ returns-then-not-invar_holds-clause-clause c =
     let flat = c.args.flat.now in
     let m = c.requires.model in
     let values = c.give.new.self.values.items in
-    let g = c.in_ok-give.ensures.values flat.items.now c.requires.order.places in
+    let g = c.in_ok-give.ensures in
     let s = given c.args.state.now in
     let l = given c.args.label.now in
     let u = given c.args.following.now in
@@ -126,7 +126,7 @@ returns-then-not-invar_holds-clause-clause c =
     let values_fit : (source : PlainSource) → IsFlatOf source (parts_plain flat) → (state_fits (instances_of source) u && label_fits (instances_of source) l) ≡ true =
     λ source k. both_same _ _ true true (state source k) (label source k) in
     let old = c.give_label.new.self.values.items in
-    let before = c.in_ok-give_label.ensures s l c.requires.row.label c.requires.held c.in_ok-give.ensures.label c.requires.row.row in
+    let before = c.give_label.ensures.row s c.requires.row.label l u c.requires.row.row g in
     let goes : (b : Bool) → c.step_holds.result ≡ b → (source : PlainSource) → IsFlatOf source (parts_plain flat) → step_holds (instances_of source) s l u ≡ b =
     λ b e source k.
     let h = rows_true flat source k s l u l (row_values old) (row_values new) before row in
@@ -142,7 +142,7 @@ returns-clause-clause c =
     let flat = c.args.flat.now in
     let m = c.requires.model in
     let values = c.give.new.self.values.items in
-    let g = c.in_ok-give.ensures.values flat.items.now c.requires.order.places in
+    let g = c.in_ok-give.ensures in
     let s = given c.args.state.now in
     let l = given c.args.label.now in
     let u = given c.args.following.now in
@@ -154,7 +154,7 @@ returns-clause-clause c =
     let values_fit : (source : PlainSource) → IsFlatOf source (parts_plain flat) → (state_fits (instances_of source) u && label_fits (instances_of source) l) ≡ true =
     λ source k. both_same _ _ true true (state source k) (label source k) in
     let old = c.give_label.new.self.values.items in
-    let before = c.in_ok-give_label.ensures s l c.requires.row.label c.requires.held c.in_ok-give.ensures.label c.requires.row.row in
+    let before = c.give_label.ensures.row s c.requires.row.label l u c.requires.row.row g in
     let goes : (b : Bool) → c.step_holds.result ≡ b → (source : PlainSource) → IsFlatOf source (parts_plain flat) → step_holds (instances_of source) s l u ≡ b =
     λ b e source k.
     let h = rows_true flat source k s l u l (row_values old) (row_values new) before row in
@@ -170,7 +170,7 @@ returns-clause-row c =
     let flat = c.args.flat.now in
     let m = c.requires.model in
     let values = c.give.new.self.values.items in
-    let g = c.in_ok-give.ensures.values flat.items.now c.requires.order.places in
+    let g = c.in_ok-give.ensures in
     let s = given c.args.state.now in
     let l = given c.args.label.now in
     let u = given c.args.following.now in
@@ -181,8 +181,8 @@ returns-clause-row c =
     let label : (source : PlainSource) → IsFlatOf source (parts_plain flat) → IsTrue (label_fits (instances_of source) l) = λ source k. (both_fit flat source k u l values g fits).1 in
     let values_fit : (source : PlainSource) → IsFlatOf source (parts_plain flat) → (state_fits (instances_of source) u && label_fits (instances_of source) l) ≡ true =
     λ source k. both_same _ _ true true (state source k) (label source k) in
-    λ e. record { label = l; row = row; state_fits = state; label_fits = label }
+    λ e. record { size = c.evaluate.ensures.size ∙ g.size; label = l; row = row; state_fits = state; label_fits = label }
 
 pub returns-clause-before : goal.returns-clause-before
 returns-clause-before c = λ e.
-    c.in_ok-give_label.ensures (given c.args.state.now) (given c.args.label.now) c.requires.row.label c.requires.held c.in_ok-give.ensures.label c.requires.row.row
+    c.give_label.ensures.row (given c.args.state.now) c.requires.row.label (given c.args.label.now) (given c.args.following.now) c.requires.row.row c.in_ok-give.ensures

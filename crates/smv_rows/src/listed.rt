@@ -1,0 +1,73 @@
+// Values of states and labels that are in the order of the items.
+ghost use Rattle.std.specs.Prelude.{◌≡◌, ℕ, length, map, slice_get, OnOk};
+ghost use Rattle.smv_operators.specs.View.{seen_value};
+ghost use Rattle.smv_flat_evaluation.specs.RowValues.{row_values};
+ghost use Rattle.smv_rows.specs.Listed.{first_given, behind_first, listed_values};
+ghost use Rattle.smv_rows.specs.Relabelling.{input_or};
+
+use crate::order::is_input;
+use smv_flat_evaluation::item_at;
+use smv_items::{FlatItem, ItemKind};
+use smv_meaning::Given;
+use smv_operators::{Seen, borrow_value, no_seen};
+use text_core::NoMemory;
+
+// The first value, and what is behind it.
+#[inline(always)]
+fn next_given<'a>(rest: &'a [Given]) -> (Seen<'a>, &'a [Given])
+    ensures value { seen_value result.0 ≡ first_given rest.now }
+    ensures left { result.1.now ≡ behind_first rest.now }
+{
+    match rest.split_first() {
+        None => (no_seen(), rest),
+        Some((first, more)) => (borrow_value(&first.value), more),
+    }
+}
+
+/// Sets each state and frozen variable to the next value of the state, and each input to the next value of the label.
+///
+/// The other items have no value yet.
+pub(crate) fn give_listed<'a>(
+    items: &[FlatItem],
+    state: &'a [Given],
+    label: &'a [Given],
+    values: &mut Vec<Seen<'a>>,
+) -> Result<(), NoMemory>
+    ensures { OnOk result (map seen_value values.new.items ≡ listed_values (map (λ m. m.kind) items.now) state.now label.now) }
+{
+    values.clear();
+    let mut state = state;
+    let mut label = label;
+    let mut rest = items;
+    while let Some((item, more)) = rest.split_first() {
+        let value = match item.kind {
+            ItemKind::State | ItemKind::Frozen => {
+                let (value, left) = next_given(state);
+                state = left;
+                value
+            }
+            ItemKind::Input => {
+                let (value, left) = next_given(label);
+                label = left;
+                value
+            }
+            ItemKind::Define | ItemKind::Actual => no_seen(),
+        };
+        values.push(value)?;
+        rest = more;
+    }
+    Ok(())
+}
+
+/// Sets each input to its value in the other row.
+pub(crate) fn give_inputs<'a>(items: &[FlatItem], other: &[Seen<'a>], values: &mut Vec<Seen<'a>>)
+    requires { length values.old.items ≡ length items.now }
+    ensures size { length values.new.items ≡ length values.old.items }
+    ensures inputs { (k : ℕ) → row_values values.new.items k ≡ input_or (slice_get items.now k) (row_values other.now k) (row_values values.old.items k) }
+{
+    for k in 0..items.len() {
+        if is_input(items[k].kind) {
+            values[k] = item_at(other, k);
+        }
+    }
+}
