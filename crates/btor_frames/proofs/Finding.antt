@@ -11,6 +11,7 @@ use Rattle.btor_tree.specs.Fits.{AreEarlier, IsWellFormed, operands, state_value
 use Rattle.btor_tree.proofs.Grows.{slice_get_inside, take_push}
 use Rattle.btor_tree.proofs.Paths.{operands_append, state_value_append}
 use Rattle.btor_frames.specs.Tables.{line_operands, noted}
+use Rattle.btor_tree.proofs.Sorts.{or_none}
 
 pub earlier_more : (n m : ℕ) (args : List Arg) → n ≤ m → AreEarlier n args → AreEarlier m args
 earlier_more n m [] h e = tt
@@ -21,10 +22,6 @@ pub earlier_inside : (lines : List Line) (i : ℕ) (l : Line) (n : ℕ) → IsWe
 earlier_inside lines i l n w g e =
     let inside = slice_get_inside lines i l g in
     earlier_more (length (take i lines)) n l.args (omega (arith, e, inside, length-take-le i lines (omega arith))) (w.by_line i l g).body.earlier
-
-or_none : {X : Type 0} (o : Option X) → o ≡ option_or o None
-or_none None = refl
-or_none (Some x) = refl
 
 noted_at : (values : List (Option Arg)) (args : List Arg) (s : ℕ) → AreEarlier (length values) args → get_or (noted values args) s None ≡ option_or (get_or values s None) (value_for args s)
 noted_at values [] s h = or_none (get_or values s None)

@@ -207,7 +207,7 @@ one_id lines i j l m w h g e =
       ]
     ]
 
-after_letter : (a b : Bool) (x : List ℕ) → drop 2 (letter_by a b ++ x) ≡ x
+pub after_letter : (a b : Bool) (x : List ℕ) → drop 2 (letter_by a b ++ x) ≡ x
 after_letter true b x = refl
 after_letter false true x = refl
 after_letter false false x = refl

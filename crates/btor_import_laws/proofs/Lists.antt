@@ -3,7 +3,7 @@ use Rattle.std.proofs.Common.{◌≡◌, ℕ, zero, suc, ◌+◌, Bool, true, fa
 use Rattle.std.specs.Prelude.{slice_get}
 use Rattle.std.specs.Option.{option_or}
 use Rattle.std.specs.List.{AllByRecursion}
-use Rattle.std.proofs.lemmas.Bool.{eq-eqb, eqb-true}
+use Rattle.std.proofs.lemmas.Bool.{eq-eqb}
 use Rattle.std.proofs.lemmas.List.{take-append-drop}
 use Rattle.std.proofs.lemmas.Option.{same_Some, none-some}
 use Rattle.btor_tree.specs.declared.args.Arg.{Arg}
@@ -79,14 +79,6 @@ queries_long n [] = refl
 queries_long n (l ∷ ls) = ap suc (queries_long (n + 1) ls)
 
 -- ---- values of states
-
-pub value_for_facts : (args : List Arg) (s : ℕ) (v : Arg) → value_for args s ≡ Some v → (x : Arg) × (args ≡ x ∷ v ∷ []) × (x.line ≡ s)
-value_for_facts [] s v h = absurd (none-some v h)
-value_for_facts (x ∷ []) s v h = absurd (none-some v h)
-value_for_facts (x ∷ u ∷ []) s v h =
-    let c = cond_some (eqb x.line s) (Some u) v h in
-    (x, ap (λ z. x ∷ z ∷ []) (same_Some u v c.1), eqb-true x.line s c.0)
-value_for_facts (x ∷ u ∷ y ∷ more) s v h = absurd (none-some v h)
 
 -- the line that gives a state its value
 pub value_found : (kind : LineOp → Bool) (lines : List Line) (s : ℕ) (v : Arg) → state_value kind lines s ≡ Some v → (i : ℕ) × (l : Line) × (slice_get lines i ≡ Some l) × (kind l.op ≡ true) × (value_for l.args s ≡ Some v)

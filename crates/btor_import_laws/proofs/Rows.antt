@@ -27,7 +27,7 @@ use Rattle.moxi_terms.specs.Value.{Values}
 use Rattle.moxi_scripts.specs.Behaviour.{Suits}
 use Rattle.btor_import.specs.Script.{is_local, number_of}
 use Rattle.btor_import.proofs.Lists.{mapped_at}
-use Rattle.btor_import.proofs.LineVariables.{all_variables, id_small, letter_by, line_of_variable, local_is, one_id, variable_for, variable_there}
+use Rattle.btor_import.proofs.LineVariables.{all_variables, id_small, letter_by, line_of_variable, local_is, one_id, variable_for, variable_there, after_letter}
 use Rattle.btor_import_laws.proofs.Steps.{Agree, EquationsHold, fits_at}
 
 -- ---- the row of a step
@@ -80,11 +80,6 @@ local_given : (before : List Line) (s : ℕ) (o : LineOp) (x : BitVector) → is
 local_given before s line.Input x h = absurd (cc)
 local_given before s line.State x h = absurd (cc)
 local_given before s o x h = tt
-
-after_letter : (a b : Bool) (x : List ℕ) → drop 2 (letter_by a b ++ x) ≡ x
-after_letter true b x = refl
-after_letter false true x = refl
-after_letter false false x = refl
 
 -- ---- the values of a row
 

@@ -23,7 +23,7 @@ use Rattle.std.proofs.lemmas.Bool.{eqb-true}
 use Rattle.btor_tree.proofs.Rows.{Given, GivesWords, row_upto, frame_upto, upto_same, word_upto, slice_get_take}
 use Rattle.btor_tree.proofs.Literals.{cond_some}
 
-value_for_facts : (args : List Arg) (s : ℕ) (v : Arg) → value_for args s ≡ Some v → (x : Arg) × (args ≡ x ∷ v ∷ []) × (x.line ≡ s)
+pub value_for_facts : (args : List Arg) (s : ℕ) (v : Arg) → value_for args s ≡ Some v → (x : Arg) × (args ≡ x ∷ v ∷ []) × (x.line ≡ s)
 value_for_facts [] s v h = absurd (none-some v h)
 value_for_facts (x ∷ []) s v h = absurd (none-some v h)
 value_for_facts (x ∷ u ∷ []) s v h =

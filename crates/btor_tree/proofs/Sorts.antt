@@ -37,7 +37,7 @@ sort_place_is (l ∷ ls) w p h =
       | inr s ↦ ap (sort_at (l ∷ ls)) s.2 ∙ sort_place_is ls w s.0 s.1
     ]
 
-or_none : {X : Type 0} (o : Option X) → o ≡ option_or o None
+pub or_none : {X : Type 0} (o : Option X) → o ≡ option_or o None
 or_none None = refl
 or_none (Some x) = refl
 

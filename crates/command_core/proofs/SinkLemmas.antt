@@ -10,7 +10,7 @@ use Rattle.text_core.specs.Outside.{grown, HasNewFault}
 use Rattle.command_core.specs.Sinks.{IsPart, Puts}
 use Rattle.command_core.specs.Notes.{joined}
 
-grown_twice : (before : Option (List ℕ)) (xs ys : List ℕ) → grown (grown before xs) ys ≡ grown before (xs ++ ys)
+pub grown_twice : (before : Option (List ℕ)) (xs ys : List ℕ) → grown (grown before xs) ys ≡ grown before (xs ++ ys)
 grown_twice None xs ys = refl
 grown_twice (Some taken) xs ys = ap Some (append_assoc taken xs ys)
 

@@ -99,7 +99,7 @@ pub last_at : (xs : List ℕ) (x : ℕ) → slice_index_or (xs ++ x ∷ []) (len
 last_at [] x = refl
 last_at (y ∷ ys) x = last_at ys x
 
-not_true : (b : Bool) → not b ≡ true → b ≡ false
+pub not_true : (b : Bool) → not b ≡ true → b ≡ false
 not_true true h = cc
 not_true false h = refl
 

@@ -1,11 +1,8 @@
 -- Bytes that are written one after another.
-use Rattle.std.proofs.Common.{◌≡◌, ℕ, List, [], ◌++◌, Option, Some, None, refl, ap, ◌∙◌, append_assoc}
+use Rattle.std.proofs.Common.{◌≡◌, ℕ, List, [], ◌++◌, Option, Some, None, refl, ap, ◌∙◌}
 use Rattle.std.proofs.lemmas.List.{append-nil}
 use Rattle.text_core.specs.Outside.{grown}
-
-pub grown_twice : (before : Option (List ℕ)) (xs ys : List ℕ) → grown (grown before xs) ys ≡ grown before (xs ++ ys)
-grown_twice None xs ys = refl
-grown_twice (Some taken) xs ys = ap Some (append_assoc taken xs ys)
+use Rattle.command_core.proofs.SinkLemmas.{grown_twice}
 
 pub grown_nothing : (before : Option (List ℕ)) → grown before [] ≡ before
 grown_nothing None = refl

@@ -21,6 +21,7 @@ use Rattle.moxi_scripts.specs.Entries.{found_sort, locals_among, locals_found, n
 use Rattle.moxi_scripts.specs.Lists.{all_entries, are_shaped, possible_entries, text_entries}
 use Rattle.moxi_attributes.specs.laws.Collecting.{also_none}
 use Rattle.moxi_declarations.specs.Once.{locals_listed}
+use Rattle.moxi_scripts.specs.laws.WholeNames.{or_parts}
 
 abbrev local : List ℕ → Option Sort → Local
 local name sort = record { name = name; sort = sort }
@@ -50,10 +51,6 @@ fresh_head names d ds h = go (is_none (place_of names d.name)) refl h
 
 abbrev name_of : Local → List ℕ
 name_of x = x.name
-
-or_parts : (a b : Bool) → (a || b) ≡ false → (a ≡ false) × (b ≡ false)
-or_parts true b h = absurd (cc)
-or_parts false b h = (refl, h)
 
 -- what is behind other names is found
 found_behind : (n : ℕ) (seen more : List Local) (x : Local) → list_any (bytes_eq x.name) (map name_of seen) ≡ false → found_sort (first_of n (seen ++ x ∷ more) x.name) ≡ x.sort

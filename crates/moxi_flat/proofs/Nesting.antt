@@ -4,6 +4,7 @@ use Rattle.std.specs.List.{AllByRecursion}
 use Rattle.std.proofs.lemmas.Bool.Decides.{nat_tests}
 use Rattle.moxi_scripts.specs.declared.script.Subsystem.{Subsystem}
 use Rattle.moxi_scripts.specs.Script.{PlainSystem, system_at}
+use Rattle.moxi_scripts.proofs.WholeRanks.{bit}
 
 -- from a system one comes to no subsystem through more than so many systems
 abbrev pub Nests : ℕ → List PlainSystem → ℕ → Type 0
@@ -14,12 +15,6 @@ Nests (suc depth) ss i = (i < length ss) × AllByRecursion (λ (b : Subsystem). 
 count : (ℕ → Bool) → ℕ → ℕ
 count p zero = 0
 count p (suc n) = cond (p n) 1 0 + count p n
-
-bit : (a b : Bool) → (a ≡ true → b ≡ true) → (let n : ℕ = cond a 1 0 in n) ≤ cond b 1 0
-bit true true f = omega arith
-bit true false f = let e = f refl in absurd (cc)
-bit false true f = omega arith
-bit false false f = omega arith
 
 count_most : (p q : ℕ → Bool) (n : ℕ) → ((m : ℕ) → q m ≡ true → p m ≡ true) → count q n ≤ count p n
 unfolding count

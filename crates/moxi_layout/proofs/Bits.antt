@@ -1,5 +1,5 @@
 -- Words of truth values at places, and what gates and chains make of them.
-use Rattle.std.proofs.Common.{◌≡◌, ℕ, ◌<◌, ◌≤◌, Bool, true, false, ◌&&◌, ◌||◌, eqb, List, [], ◌∷◌, ◌++◌, length, map, refl, sym, ap, ◌∙◌, subst, arith}
+use Rattle.std.proofs.Common.{◌≡◌, ℕ, ◌<◌, ◌≤◌, Bool, ◌&&◌, ◌||◌, eqb, List, [], ◌∷◌, ◌++◌, length, map, refl, sym, ap, ◌∙◌, subst, arith}
 use Rattle.std.specs.List.{AllZip, list_all, list_any}
 use Rattle.std.proofs.Math.Bool.{and_assoc, or_assoc}
 use Rattle.word_core.specs.Words.{BitVector}
@@ -16,17 +16,10 @@ use Rattle.moxi_lines.specs.TermLaws.{AreNumbered}
 use Rattle.moxi_lines.proofs.Chains.{WordsAt, chain_made, fold_all, fold_words, folded_made}
 use Rattle.moxi_lines.proofs.CodeLaws.{goes_back}
 use Rattle.moxi_lines.proofs.Steps.{BuiltWord, WordAt, binary_step}
-use Rattle.moxi_lines.proofs.Words.{bit, and_true, or_false}
+use Rattle.moxi_lines.proofs.Words.{bit, and_true, or_false, and_bit, or_bit}
 use Rattle.moxi_lines.proofs.Extending.{Extends, extends_meets, extends_width}
-use Rattle.moxi_lines.proofs.Parts.{or_bit}
 
 -- ---- truth values
-
-pub and_bit : (a b : Bool) → binary_of two.And (bit a) (bit b) ≡ bit (a && b)
-and_bit true true = refl
-and_bit true false = refl
-and_bit false true = refl
-and_bit false false = refl
 
 abbrev pub all_true : List Bool → Bool
 all_true bs = list_all (λ c. c) bs

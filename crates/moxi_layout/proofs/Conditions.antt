@@ -26,7 +26,7 @@ use Rattle.moxi_lines.specs.TermLaws.{AreNumbered, HaveCodes, VariablesAreRepres
 use Rattle.moxi_lines.proofs.Chains.{binary_grows, folded_grows}
 use Rattle.moxi_lines.proofs.Growing.{grown_long, grown_none, grown_then}
 use Rattle.moxi_lines.proofs.Terms.{calls_grow, term_grows, whole_made}
-use Rattle.moxi_lines.proofs.Words.{bit, code_truth}
+use Rattle.moxi_lines.proofs.Words.{bit, code_truth, implies_bit}
 use Rattle.moxi_lines.specs.Lines.{first_place, head_lines, input_place, one_place, with_assumptions, with_conditions, with_currents, with_formula, with_given, with_latch}
 use Rattle.moxi_lines.specs.Constraints.{is_true}
 use Rattle.moxi_lines.proofs.Extending.{Extends, extends_long, extends_meets, extends_then, extends_variables, extends_width, quietly}
@@ -35,7 +35,6 @@ use Rattle.moxi_layout.proofs.QueryLines.{IsLatch, Latch, conditions_hold}
 use Rattle.moxi_layout.specs.Layout.{is_set}
 use Rattle.moxi_layout.proofs.Bits.{BitAt, BitMade, all_true, and_folded, bit_later, bits_later, gate, some_bit, zip_push}
 use Rattle.moxi_layout.proofs.LatchLines.{head_long, latch_closed, latch_extends, latch_opened, next_extends, open_later}
-use Rattle.moxi_lines.proofs.Parts.{implies_bit}
 
 -- ---- growth
 

@@ -26,7 +26,7 @@ use Rattle.moxi_lines.specs.TermLaws.{AreNumbered, HaveCodes, VariablesAreRepres
 use Rattle.moxi_lines.proofs.Chains.{binary_grows}
 use Rattle.moxi_lines.proofs.Growing.{grown_then}
 use Rattle.moxi_lines.proofs.Terms.{calls_grow, term_grows, whole_made}
-use Rattle.moxi_lines.proofs.Words.{bit, code_truth}
+use Rattle.moxi_lines.proofs.Words.{bit, code_truth, implies_bit, or_bit}
 use Rattle.moxi_lines.specs.Lines.{first_place, input_place, is_true_term, state_place, with_constraint, with_formula, with_init, with_part, with_parts, with_step, with_trans}
 use Rattle.moxi_lines.specs.Constraints.{is_true}
 use Rattle.moxi_lines.proofs.Extending.{Extends, extends_long, extends_meets, extends_then, extends_variables, quietly}
@@ -36,7 +36,6 @@ use Rattle.moxi_layout.proofs.Additions.{Added, Adds, adds_line, adds_none, adds
 use Rattle.moxi_layout.proofs.Bits.{BitAt, gate, some_bit}
 use Rattle.moxi_layout.proofs.LatchLines.{one_more}
 use Rattle.moxi_layout.proofs.Conditions.{Stands, first_at, formula_grows, formula_made, stands_later, stands_quietly}
-use Rattle.moxi_lines.proofs.Parts.{implies_bit, or_bit}
 
 -- ---- the first ones of numbered lines are numbered
 

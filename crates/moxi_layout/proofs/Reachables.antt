@@ -23,10 +23,10 @@ use Rattle.moxi_lines.specs.Lines.{Reaching, formula_name, head_lines, with_all_
 use Rattle.moxi_lines.proofs.Extending.{Extends, extends_long, extends_none, extends_then, extends_width, quietly}
 use Rattle.moxi_layout.proofs.QueryLines.{IsLatch, Latch, are_reached, reached_until}
 use Rattle.moxi_layout.specs.Layout.{is_reached, is_set}
-use Rattle.moxi_layout.proofs.Bits.{BitAt, all_true, and_bit, and_chain, bit_later, bits_later, gate, or_chain, some_bit, some_true, zip_both, zip_push}
+use Rattle.moxi_layout.proofs.Bits.{BitAt, all_true, and_chain, bit_later, bits_later, gate, or_chain, some_bit, some_true, zip_both, zip_push}
 use Rattle.moxi_layout.proofs.LatchLines.{head_long, latch_closed, latch_extends, latch_later, latch_opened, next_extends, open_later}
 use Rattle.moxi_layout.proofs.Conditions.{Stands, formula_grows, formula_is, formula_made, stands_later}
-use Rattle.moxi_lines.proofs.Parts.{or_bit}
+use Rattle.moxi_lines.proofs.Words.{and_bit, or_bit}
 
 abbrev pub seen_name : PlainFlatSystem → List ℕ → ℕ → List ℕ
 seen_name f name r = name ++ (codes "." ++ (formula_name f.reachables r ++ codes ".seen"))

@@ -55,7 +55,7 @@ code_inside es (Choice n) (datum.Constant m i) h = omega (arith, h.1.within, cou
 code_inside es (Choice n) (datum.Truth b) h = absurd h
 code_inside es (Choice n) (datum.Bits v) h = absurd h
 
-decoded_back : (es : List Enumeration) (s : Sort) (d : Datum) → IsOf es s d → decoded_datum es s (code_of es d) ≡ d
+pub decoded_back : (es : List Enumeration) (s : Sort) (d : Datum) → IsOf es s d → decoded_datum es s (code_of es d) ≡ d
 decoded_back es Truth d h = comes_back es Truth d h
 decoded_back es (Bits w) d h = comes_back es (Bits w) d h
 decoded_back es (Choice n) (datum.Constant m i) h =

@@ -4,7 +4,6 @@ use Rattle.std.specs.Prelude.{slice_get}
 use Rattle.std.specs.List.{AllByRecursion}
 use Rattle.std.proofs.Math.Logic.{∥∥₁_map}
 use Rattle.std.proofs.Math.Nat.{one-le-pow}
-use Rattle.std.proofs.lemmas.Bool.Decides.{nat_tests}
 use Rattle.std.proofs.lemmas.Option.{same_Some}
 use Rattle.word_core.specs.Words.{BitVector, IsWord}
 use Rattle.word_core.specs.declared.word.TheConstants.{WIDEST}
@@ -37,7 +36,7 @@ use Rattle.moxi_layout.proofs.Entries.{input_there, sorts_long}
 use Rattle.moxi_lift.specs.Lifted.{lifted_step, lifted_values, stated_datum}
 use Rattle.moxi_lift.proofs.Held.{equal_held}
 use Rattle.moxi_lift.proofs.Upto.{at_upto, upto_long}
-use Rattle.moxi_lines.proofs.Decoded.{sort_there}
+use Rattle.moxi_lines.proofs.Decoded.{sort_there, less_than}
 
 -- ---- values of sorts
 
@@ -51,9 +50,6 @@ constant_is : (es : List Enumeration) (n : ℕ) (e : Enumeration) → slice_get 
     → IsOf es (Choice n) (cond b (datum.Constant n i) (datum.Constant n 0))
 constant_is es n e there some i true h = (refl, record { enumeration = e; there = there; within = subst (λ (x : Enumeration). i < length x.constants) (read_at es n e (record { name = []; constants = [] }) there) (h refl) })
 constant_is es n e there some i false h = (refl, record { enumeration = e; there = there; within = some })
-
-less_than : (a b : ℕ) → nat_lt a b ≡ true → a < b
-less_than a b h = grind (arith, nat_tests)
 
 -- a word of a sort's width stands for a value of the sort
 decoded_is : (es : List Enumeration) → AllByRecursion (λ (e : Enumeration). 0 < length e.constants) es → (s : Sort) → IsSort es s → (x : BitVector) → IsWord x → x.width ≡ sort_bits es s → IsOf es s (decoded_datum es s x)

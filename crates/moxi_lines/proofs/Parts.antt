@@ -25,7 +25,7 @@ use Rattle.moxi_lines.specs.TermLaws.{AreNumbered, HaveCodes, Makes, VariablesAr
 use Rattle.moxi_lines.proofs.Growing.{grown_long, grown_meets, grown_then}
 use Rattle.moxi_lines.proofs.Steps.{WordAt, binary_step}
 use Rattle.moxi_lines.proofs.Chains.{binary_grows}
-use Rattle.moxi_lines.proofs.Words.{bit, code_truth}
+use Rattle.moxi_lines.proofs.Words.{bit, code_truth, implies_bit, or_bit}
 use Rattle.moxi_lines.proofs.Terms.{calls_grow, term_grows, whole_made}
 use Rattle.moxi_lines.specs.Lines.{first_place, input_place, is_true_term, state_place, with_constraint, with_formula, with_init, with_inv, with_part, with_parts, with_step, with_trans}
 use Rattle.moxi_lines.specs.Constraints.{Constrains, VariablesAreThere, is_true, part_holds, parts_hold}
@@ -52,18 +52,6 @@ some_bit x w e =
       | inl h ↦ (true, one ∙ ap (λ n. let y : BitVector = record { width = 1; bits = n } in y) h)
       | inr h ↦ (false, one ∙ ap (λ n. let y : BitVector = record { width = 1; bits = n } in y) h)
     ]
-
-pub implies_bit : (a b : Bool) → binary_of two.Implies (bit a) (bit b) ≡ bit (not a || b)
-implies_bit true true = refl
-implies_bit true false = refl
-implies_bit false true = refl
-implies_bit false false = refl
-
-pub or_bit : (a b : Bool) → binary_of two.Or (bit a) (bit b) ≡ bit (a || b)
-or_bit true true = refl
-or_bit true false = refl
-or_bit false true = refl
-or_bit false false = refl
 
 is_true_means : (t : Tree) → is_true_term t ≡ true → t ≡ constant (datum.Truth true)
 is_true_means (constant (datum.Truth true)) h = refl

@@ -40,13 +40,13 @@ code_bits es w (datum.Constant n i) h = absurd h
 
 -- ---- truth values
 
-and_bit : (a b : Bool) → binary_of two.And (bit a) (bit b) ≡ bit (a && b)
+pub and_bit : (a b : Bool) → binary_of two.And (bit a) (bit b) ≡ bit (a && b)
 and_bit true true = refl
 and_bit true false = refl
 and_bit false true = refl
 and_bit false false = refl
 
-or_bit : (a b : Bool) → binary_of two.Or (bit a) (bit b) ≡ bit (a || b)
+pub or_bit : (a b : Bool) → binary_of two.Or (bit a) (bit b) ≡ bit (a || b)
 or_bit true true = refl
 or_bit true false = refl
 or_bit false true = refl
@@ -58,7 +58,7 @@ xor_bit true false = refl
 xor_bit false true = refl
 xor_bit false false = refl
 
-implies_bit : (a b : Bool) → binary_of two.Implies (bit a) (bit b) ≡ bit (not a || b)
+pub implies_bit : (a b : Bool) → binary_of two.Implies (bit a) (bit b) ≡ bit (not a || b)
 implies_bit true true = refl
 implies_bit true false = refl
 implies_bit false true = refl

@@ -1,23 +1,21 @@
 -- The witness of a trace is lifted to the trace again.
-use Rattle.std.proofs.Common.{◌≡◌, ℕ, zero, suc, cond, List, [], ◌∷◌, ◌++◌, length, map, refl, sym, ap, ◌∙◌, arith}
+use Rattle.std.proofs.Common.{◌≡◌, ℕ, zero, suc, List, [], ◌∷◌, ◌++◌, length, map, refl, sym, ap, ◌∙◌}
 use Rattle.std.specs.Prelude.{slice_index_or}
 use Rattle.std.specs.List.{AllByRecursion}
 use Rattle.btor_frames.specs.Judged.{stated_or}
 use Rattle.btor_witness.specs.declared.witness.Frame.{Frame}
 use Rattle.moxi_terms.specs.declared.data.Datum.{Datum}
 use Rattle.moxi_terms.specs.declared.data.Datum.TheVariants as datum
-use Rattle.moxi_terms.specs.declared.data.Sort.{Sort}
-use Rattle.moxi_terms.specs.declared.data.Sort.TheVariants.{Truth, Bits, Choice}
+use Rattle.moxi_terms.specs.declared.data.Sort.TheVariants.{Truth}
 use Rattle.moxi_terms.specs.declared.term.Enumeration.{Enumeration}
 use Rattle.moxi_terms.specs.declared.term.Variable.{Variable}
-use Rattle.moxi_terms.specs.Sorts.{Fit, IsOf}
+use Rattle.moxi_terms.specs.Sorts.{Fit}
 use Rattle.moxi_terms.specs.Tree.{sorts_of}
 use Rattle.moxi_terms.specs.Value.{Values, at}
 use Rattle.moxi_terms.proofs.SortLaws.{fit_long}
 use Rattle.moxi_terms.proofs.ValueLaws.{fit_at}
-use Rattle.moxi_lines.specs.Codes.{code_of, constant_count, sort_bits}
+use Rattle.moxi_lines.specs.Codes.{sort_bits}
 use Rattle.moxi_lines.specs.Decoding.{decoded_datum}
-use Rattle.moxi_lines.proofs.CodeLaws.{comes_back, count_is}
 use Rattle.moxi_layout.proofs.Entries.{sorts_long}
 use Rattle.moxi_lift.specs.Lifted.{lifted_step, lifted_values, values_upto}
 use Rattle.moxi_lift.proofs.Upto.{upto_same}
@@ -25,17 +23,7 @@ use Rattle.moxi_lower.specs.Laws.{LoweredAreLifted}
 use Rattle.moxi_lower.specs.Lowered.{codes_upto, lowered_step}
 use Rattle.moxi_lower.proofs.Codes.{code_stated}
 use Rattle.moxi_lift.proofs.Decoded.{sort_get}
-use Rattle.moxi_lines.proofs.Decoded.{is_less}
-
--- a value of a sort comes back from its word
-pub decoded_back : (es : List Enumeration) (s : Sort) (d : Datum) → IsOf es s d → decoded_datum es s (code_of es d) ≡ d
-decoded_back es Truth d h = comes_back es Truth d h
-decoded_back es (Bits w) d h = comes_back es (Bits w) d h
-decoded_back es (Choice n) (datum.Constant m i) h =
-    ap (λ b. cond b (datum.Constant n i) (datum.Constant n 0)) (is_less i (constant_count es n) (omega (arith, h.1.within, count_is es n h.1.enumeration h.1.there)))
-    ∙ ap (λ k. datum.Constant k i) (sym h.0)
-decoded_back es (Choice n) (datum.Truth b) h = absurd h
-decoded_back es (Choice n) (datum.Bits v) h = absurd h
+use Rattle.moxi_layout.proofs.Values.{decoded_back}
 
 -- ---- the values of a list, one behind the other
 

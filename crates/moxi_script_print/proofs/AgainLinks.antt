@@ -34,7 +34,7 @@ use Rattle.moxi_script_print.proofs.AgainDeclarations.{same_refl}
 use Rattle.moxi_script_print.proofs.AgainEntries.{Agree, agree_append, agree_sorts}
 use Rattle.moxi_script_print.proofs.AgainParts.{both_nil, first_or, rest_of}
 use Rattle.moxi_script_print.proofs.AgainSystems.{AgreeSystem}
-use Rattle.moxi_script_print.proofs.AgainUses.{AgreeUse, AgreeUses}
+use Rattle.moxi_script_print.proofs.AgainUses.{AgreeUse, AgreeUses, actual_sorts}
 use Rattle.moxi_scripts.specs.laws.ListLaws.{get_right}
 use Rattle.moxi_scripts.specs.laws.WholeNames.{absent_append, is_absent, or_both}
 use Rattle.moxi_scripts.specs.laws.WholeScopes.{new_term}
@@ -58,9 +58,6 @@ no_clash (Some a) b p e = ap (λ b. clash_failures (Some a) b p) (sym e) ∙ ap 
 
 abbrev entry_sorts : List Declared → List (Option Sort)
 entry_sorts ds = map (λ (d : Declared). d.sort) ds
-
-abbrev actual_sorts : List Actual → List (Option Sort)
-actual_sorts xs = map (λ (a : Actual). a.sort) xs
 
 -- the entries from here on have the sorts of the actuals
 none_clash : (l : Lists) (xs : List Actual) (front ds : List Declared) → l.inputs.entries ++ l.outputs.entries ≡ front ++ ds → actual_sorts xs ≡ entry_sorts ds → links.actuals_clash l (length front) xs ≡ []

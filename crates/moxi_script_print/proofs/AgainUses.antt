@@ -83,7 +83,7 @@ first_at before (v ∷ vs) n (suc i) s h e =
 
 -- ACTUALS
 
-abbrev actual_sorts : List Actual → List (Option Sort)
+abbrev pub actual_sorts : List Actual → List (Option Sort)
 actual_sorts xs = map (λ (a : Actual). a.sort) xs
 
 record AreActuals (locals : List Local) (ts : form.Trees) (ns : List ℕ) (ss : List Sort) : Type 0 where

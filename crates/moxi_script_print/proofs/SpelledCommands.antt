@@ -29,7 +29,7 @@ use Rattle.moxi_scripts.specs.declared.parts.CommandName.TheVariants as name
 
 -- ---- what has no bar and no backslash can be spelled
 
-pick : {X : Type 0} (P : X → Type 0) (b : Bool) (x y : X) → (b ≡ true → P x) → (b ≡ false → P y) → P (if b then x else y)
+pub pick : {X : Type 0} (P : X → Type 0) (b : Bool) (x y : X) → (b ≡ true → P x) → (b ≡ false → P y) → P (if b then x else y)
 pick P true x y h k = h refl
 pick P false x y h k = k refl
 

@@ -28,6 +28,7 @@ use Rattle.smv_items.specs.laws.OriginLemmas.{append_none}
 use Rattle.smv_items.specs.FlatItems.{Leaf}
 use Rattle.smv_flat.specs.FlatTree.{FlatTree, flat_link, flat_links_of, flat_branches_of, flat_trees_of, flat_branch, flat_tree_then, flat_tree, flat_links, flat_branches, flat_trees, is_set, has_set}
 use Rattle.smv_flat.specs.FlatView.{fronts_type, chain_type, behind_types}
+use Rattle.smv_types.specs.laws.Shapes.{implies_across}
 
 pub literal_is : (w : BitVector) → IsWord w → literal_type w ≡ Some (word_type w.width)
 literal_is w h = ap (λ b. if b then Some (word_type w.width) else None) (is_word w h)
@@ -137,10 +138,6 @@ fronts_are names at p a (link op e ls) = fronts_are names at p (front op at p a 
 implies_behind : (op : Infix) (at : Position) → is_implies op ≡ true → single at ≡ behind op (single at)
 implies_behind OfInfix.Implies at h = refl
 implies_behind op at h = absurd_bool h
-
-implies_across : (op : Infix) (e : Tree) (ls : Links) (at : Position) → is_implies op ≡ true → across (link op e ls) at ≡ single at
-implies_across OfInfix.Implies e ls at h = refl
-implies_across op e ls at h = absurd_bool h
 
 right_types : (names : Path → Named) (at : Position) (ls : Links) → are_implies ls ≡ true → link_types names (single at) ls ≡ behind_types names (single at) ls
 right_types names at no_links h = refl

@@ -262,7 +262,7 @@ two_hold true b h k = k
 two_hold false b h k = cc
 
 -- a parameter is no variable
-past_parameters : (j : ℕ) (qs : List Parameter) (es : Trees) (x : List ℕ) (other : Local) (kind : VarKind) (d : PlainDomain)
+pub past_parameters : (j : ℕ) (qs : List Parameter) (es : Trees) (x : List ℕ) (other : Local) (kind : VarKind) (d : PlainDomain)
     → among_parameters j qs es x other ≡ variable_of kind d → other ≡ variable_of kind d
 past_parameters j [] es x other kind d h = h
 past_parameters j (q ∷ qs) no_trees x other kind d h = h

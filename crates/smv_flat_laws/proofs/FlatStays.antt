@@ -155,13 +155,13 @@ elements_stay t state following i path (el ∷ es) e h =
     (element_stays_so t state following i path el e s.0) (elements_stay t state following i path es e s.1)
 
 -- the rest of the instances from a number on
-abbrev IsRest : List Instance → ℕ → List Instance → Type 0
+abbrev pub IsRest : List Instance → ℕ → List Instance → Type 0
 IsRest t i rest = (n : ℕ) → slice_get t (i + n) ≡ slice_get rest n
 
-rest_more : (t : List Instance) (i : ℕ) (at : Instance) (rest : List Instance) → IsRest t i (at ∷ rest) → IsRest t (i + 1) rest
+pub rest_more : (t : List Instance) (i : ℕ) (at : Instance) (rest : List Instance) → IsRest t i (at ∷ rest) → IsRest t (i + 1) rest
 rest_more t i at rest h n = let s : (i + 1) + n ≡ i + suc n = omega arith in ap (slice_get t) s ∙ h (suc n)
 
-rest_path : (t : List Instance) (i : ℕ) (at : Instance) (rest : List Instance) → IsRest t i (at ∷ rest) → (x : List ℕ) → dotted_at t i x ≡ dotted at.path x
+pub rest_path : (t : List Instance) (i : ℕ) (at : Instance) (rest : List Instance) → IsRest t i (at ∷ rest) → (x : List ℕ) → dotted_at t i x ≡ dotted at.path x
 rest_path t i at rest h x = let s : i ≡ i + 0 = omega arith in ap (λ (o : Option Instance). dotted (path_in o) x) (ap (slice_get t) s ∙ h 0)
 
 instances_stay : (t : List Instance) (state following : Valuation) (i : ℕ) (rest : List Instance) → IsRest t i rest → AllModules module_is_plain rest

@@ -19,7 +19,7 @@ fn sum(a: u32, b: u32) -> Result<u32, NoMemory>
 }
 
 /// Returns the weight of a model: the tokens of the modules' bodies, summed over the instances.
-#[tactic(auto, using(crate::proofs::Lists::front_is, crate::proofs::Lists::end_is))]
+#[tactic(auto, using(smv_meaning::specs::laws::Lists::front_is, smv_meaning::specs::laws::Lists::end_is))]
 pub(crate) fn weight_in(table: &Table) -> Result<u32, NoMemory>
     ensures { IfOk result (λ n. n ≡ sum_by (λ at. at.module.tokens) (map instance_plain table.now)) }
 {
@@ -47,7 +47,7 @@ fn counted(count: u32, element: &Element) -> Result<u32, NoMemory>
 }
 
 // The count with the invariants among these elements.
-#[tactic(auto, using(crate::proofs::Lists::front_is, crate::proofs::Lists::end_is))]
+#[tactic(auto, using(smv_meaning::specs::laws::Lists::front_is, smv_meaning::specs::laws::Lists::end_is))]
 fn counted_all(count: u32, elements: &Elements) -> Result<u32, NoMemory>
     ensures { (i : ℕ) → IfOk result (λ n. n ≡ count + length (flat_map (element_invariants i) (map plain_element elements.now))) }
 {
@@ -59,7 +59,7 @@ fn counted_all(count: u32, elements: &Elements) -> Result<u32, NoMemory>
 }
 
 /// Returns the number of a model's invariants, over all its instances.
-#[tactic(auto, using(crate::proofs::Lists::front_is, crate::proofs::Lists::end_is))]
+#[tactic(auto, using(smv_meaning::specs::laws::Lists::front_is, smv_meaning::specs::laws::Lists::end_is))]
 pub(crate) fn invariant_count(table: &Table) -> Result<u32, NoMemory>
     ensures { IfOk result (λ n. n ≡ length (invariants_in (map instance_plain table.now))) }
 {

@@ -64,7 +64,7 @@ fn flat_item<'a>(
 }
 
 /// Returns the items of these origins, given their dotted paths.
-#[tactic(auto, using(crate::proofs::Lists::front_is, crate::proofs::Lists::end_is, crate::proofs::Lists::joined_on, crate::proofs::Lists::append_none))]
+#[tactic(auto, using(smv_meaning::specs::laws::Lists::front_is, smv_meaning::specs::laws::Lists::end_is, smv_items::specs::laws::OriginLemmas::joined_on, smv_items::specs::laws::OriginLemmas::append_none))]
 pub(crate) fn flat_items<'a>(
     alloc: Global,
     table: &Table<'a>,

@@ -26,9 +26,9 @@ use Rattle.smv_grammar.specs.declared.levels.Leader.TheVariants as leader
 use Rattle.smv_grammar.specs.Marks.{is_sign, is_word}
 use Rattle.smv_grammar.specs.Ranks.{level_at, tightest, class_rank, level_rank, rank_of, first_rank}
 use Rattle.smv_grammar.specs.Machine.{prefix_sign, is_prefix, Chained, bare, joined, taken, chain_at, choice_at, Frame, operand, when, value, selected, bracket, following, listing, condition, result, closing_of, listed, ask, have, signed, opened, longer, leader_of, calling, walk}
-use Rattle.smv_grammar.specs.Reading.{after, after_word, Found, found, lost, number_at, first_number, negated, integer_at, first_integer, starts_with_dots, dots_behind, starts_range, name_at, path_on, path_at}
+use Rattle.smv_grammar.specs.Reading.{after, after_word, found, number_at, first_number, negated, integer_at, first_integer, starts_with_dots, dots_behind, starts_range, name_at, path_on, path_at}
 use Rattle.smv_grammar.proofs.Ranked.{rank_at, class_ranks, not_sign, Stops}
-use Rattle.smv_grammar.proofs.First.{path_on-step, path_on-ends}
+use Rattle.smv_grammar.proofs.First.{path_on-step, path_on-ends, dots_negated}
 use Rattle.smv_grammar.proofs.Steps.{chained, chain_goes, when_goes, value_goes, selected_goes, bracket_goes, following_goes, condition_goes, result_goes, listing_goes, listing_ends, when_leaves, selected_leaves, signs_fold, operand_goes, signed_goes, open_next_goes, open_call_goes, high_colon_goes, low_close_goes, signed_ends, case_more, case_ends, high_end_goes, low_end_goes, upto_goes, named_on}
 use Rattle.smv_grammar.proofs.Climbing.{none_after, none_joined, opened_leaves, chain_begins, choice_begins, selection_begins, IsPlain, passes, prefix_begins, range_goes, leads_by, path_begins}
 
@@ -226,10 +226,6 @@ opens (switches x e s) n few is = opens_kind n x _ e refl refl refl
 -- no integer with a range behind it
 lone : (x : Token) (xs : List Token) (z : TokenKind) → x.kind ≡ z → dots_behind (integer_at z xs) ≡ false → starts_range (x ∷ xs) ≡ false
 lone x xs z e f = ap (λ v. dots_behind (integer_at v xs)) e ∙ f
-
-dots_negated : (f : Found ℕ) → dots_behind (negated f) ≡ dots_behind f
-dots_negated (found n xs) = refl
-dots_negated (lost n) = refl
 
 number_only : (xs : List Token) → starts_range xs ≡ false → dots_behind (first_number xs) ≡ false
 number_only [] e = refl

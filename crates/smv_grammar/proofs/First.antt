@@ -13,7 +13,7 @@ use Rattle.smv_grammar.proofs.Signs.{sign_is, not_minus}
 pub starts_range-number : (x : Token) (xs : List Token) (n : ℕ) → x.kind ≡ kind.Number n → starts_range (x ∷ xs) ≡ starts_with_dots xs
 starts_range-number x xs n e = ap (λ z. dots_behind (integer_at z xs)) e
 
-dots_negated : (f : Found ℕ) → dots_behind (negated f) ≡ dots_behind f
+pub dots_negated : (f : Found ℕ) → dots_behind (negated f) ≡ dots_behind f
 dots_negated (found n xs) = refl
 dots_negated (lost n) = refl
 

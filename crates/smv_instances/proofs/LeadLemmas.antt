@@ -118,7 +118,7 @@ pub walk_key : (t : List Instance) (m : InstanceRows Lead) (i : ℕ) (x : List �
 walk_key t m i x j p (Ends lead) e o h = (alias_leads t i x j p lead.depth (found_plain t lead.target) e h.0, (ap is_alias (sym e), o), h.1)
 walk_key t m i x j p (Waits key) e o h = (h.0, λ n c. alias_waits t i x j p n e (h.1 n c))
 
-one_onward : (m : Found) → onward m true (λ c. instance_at c) ≡ m
+pub one_onward : (m : Found) → onward m true (λ c. instance_at c) ≡ m
 one_onward (variable_at x kind d) = refl
 one_onward (body_at i x j e) = refl
 one_onward (instance_at c) = refl

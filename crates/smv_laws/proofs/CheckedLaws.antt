@@ -13,7 +13,7 @@ use Rattle.smv_meaning.specs.Expressions.{paths_of, tree_paths}
 use Rattle.smv_meaning.specs.Instances.{Instance}
 use Rattle.smv_meaning.specs.Names.{Local, body_of, of_actual, of_domain, among_items, among_definitions, among_elements, among_parameters, parent_of, Found, variable_at, body_at, instance_at, symbol_of, cyclic, none, found_in, steps_of, path_in, local}
 use Rattle.smv_meaning.specs.Meaning.{is_input}
-use Rattle.smv_meaning.specs.Types.{ExprType, is_unmixed, has_width, has_order, domain_type, in_limit}
+use Rattle.smv_meaning.specs.Types.{is_unmixed, has_width, has_order, domain_type, in_limit}
 use Rattle.smv_meaning.specs.Checks.{Check, passes, Position, Named, typing, on_type, domain_checks, variable_type}
 use Rattle.smv_meaning.specs.Naming.{in_body, typed_variable, named_found}
 use Rattle.smv_meaning.specs.Phases.{over_instances, path_check, path_checks, element_paths, is_something, in_state, in_step, in_assignment, actual_typing, actuals_typing, formula_typing, assigned_typing, element_typing, type_checks, names_in}
@@ -26,7 +26,7 @@ use Rattle.smv_meaning.specs.laws.Booleans.{both_true, absurd_bool}
 use Rattle.smv_laws.proofs.FoundLaws.{Closed, LocalGood, by_name, in_place, there, found_good}
 use Rattle.smv_laws.proofs.Cycles.{In, in_all, in_left, in_right}
 use Rattle.smv_laws.proofs.Agreeing.{more_paths, paths_before}
-use Rattle.smv_laws.proofs.Typable.{TypedPaths, split, has_type}
+use Rattle.smv_laws.proofs.Typable.{TypedPaths, split, has_type, if_type}
 use Rattle.smv_laws.proofs.Ranked.{key}
 use Rattle.smv_laws.proofs.Settling.{Under, under_more, all_under, body_under, descent, ranking, types_settle_law}
 use Rattle.smv_laws.proofs.PartLaws.{Sound, AnyHold, part_sound}
@@ -77,10 +77,6 @@ four true true false d h = absurd_bool h
 four true false c d h = absurd_bool h
 four false b c d h = absurd_bool h
 
-if_type : (b : Bool) (t : Option ExprType) → b ≡ true → HasType t → HasType (if b then t else None)
-if_type true t b h = h
-if_type false t b h = absurd_bool b
-
 variable_has : (p : Place) (d : PlainDomain) → passes (domain_checks p d) ≡ true → HasType (domain_type d) → HasType (variable_type d)
 variable_has p d h k = if_type _ (domain_type d) (four (is_unmixed d) (on_type (domain_type d) in_limit) (has_width d) (has_order d) h) k
 
@@ -110,10 +106,10 @@ both_words e es f = both_true (words_fit e) (list_all words_fit es) f
 both_fit : (xs ys : List Tree) → Words (xs ++ ys) → Words xs × Words ys
 both_fit xs ys f = both_true (list_all words_fit xs) (list_all words_fit ys) (sym (list_all-append words_fit xs ys) ∙ f)
 
-left_lead : (t : List Instance) (i : ℕ) (xs ys : List Path) → Lead t i (xs ++ ys) → Lead t i xs
+pub left_lead : (t : List Instance) (i : ℕ) (xs ys : List Path) → Lead t i (xs ++ ys) → Lead t i xs
 left_lead t i xs ys h q g = h q (in_left q xs ys g)
 
-right_lead : (t : List Instance) (i : ℕ) (xs ys : List Path) → Lead t i (xs ++ ys) → Lead t i ys
+pub right_lead : (t : List Instance) (i : ℕ) (xs ys : List Path) → Lead t i (xs ++ ys) → Lead t i ys
 right_lead t i xs ys h q g = h q (in_right q xs ys g)
 
 abbrev names_at : List Instance → ℕ → Path → Named
@@ -154,7 +150,7 @@ given_actual : (t : List Instance) (path : List ℕ) (i j : ℕ) (x : List ℕ) 
 given_actual t path i j x (name p q) more h l w = tt
 given_actual t path i j x e more h l w = record { paths = λ r g. l r (paths_before e more r g); words = w; checks = h }
 
-more_lead : (t : List Instance) (i : ℕ) (e : Tree) (more : List Path) → Lead t i (paths_of e more) → Lead t i more
+pub more_lead : (t : List Instance) (i : ℕ) (e : Tree) (more : List Path) → Lead t i (paths_of e more) → Lead t i more
 more_lead t i e more h q g = h q (more_paths e more q g)
 
 given_parameters : (t : List Instance) (path : List ℕ) (i j : ℕ) (qs : List Parameter) (es : Trees) (x : List ℕ) (other : Local)

@@ -21,7 +21,7 @@ use Rattle.smv_laws.proofs.Agreeing.{more_paths, more_branches}
 pub split : (cs ds : List Check) → passes (cs ++ ds) ≡ true → (passes cs ≡ true) × (passes ds ≡ true)
 split cs ds h = both_true (passes cs) (passes ds) (sym (list_all-append (λ (c : Check). c.holds) cs ds) ∙ h)
 
-if_type : (b : Bool) (t : Option ExprType) → b ≡ true → HasType t → HasType (if b then t else None)
+pub if_type : (b : Bool) (t : Option ExprType) → b ≡ true → HasType t → HasType (if b then t else None)
 if_type true t b h = h
 if_type false t b h = absurd_bool b
 

@@ -29,7 +29,7 @@ use Rattle.smv_lex.proofs.Printed.{Apart, at_end, blank_first, IsReadAs, printed
 use Rattle.smv_lex.proofs.Spellings.{sign_read}
 use Rattle.smv_lex.proofs.Whole.{passes_alone}
 
-some_same : {A : Type 0} (x y : A) → Some x ≡ Some y → x ≡ y
+pub some_same : {A : Type 0} (x y : A) → Some x ≡ Some y → x ≡ y
 some_same x y e = cc
 
 some_sized : (n : ℕ) (p : Place) (text : List ℕ) (size : ℕ) → 0 < size → sized n p text size ≡ kinded n p (take size text) (drop size text) (kind_of (take size text))
@@ -117,33 +117,33 @@ number_small : (o : Option ℕ) (m : ℕ) → option_and_then (below (2 ^ 62)) o
 number_small None m e = cc
 number_small (Some n) m e = below_limit (2 ^ 62) n m e
 
-fitted_word : (width n : ℕ) (w : BitVector) → 1 ≤ width → width ≤ WIDEST → fitted width n ≡ Some w → IsWord w
+pub fitted_word : (width n : ℕ) (w : BitVector) → 1 ≤ width → width ≤ WIDEST → fitted width n ≡ Some w → IsWord w
 fitted_word width n w some most e = at_test (nat_lt n (2 ^ width)) refl e
   where
     at_test : (c : Bool) → nat_lt n (2 ^ width) ≡ c → cond c (Some (record { width = width; bits = n })) None ≡ Some w → IsWord w
     at_test true t e = let same : record { width = width; bits = n } ≡ w = cc in subst IsWord same (some, most, grind (arith, nat_tests, t))
     at_test false t e = cc
 
-value_word : (width : ℕ) (o : Option ℕ) (w : BitVector) → 1 ≤ width → width ≤ WIDEST → option_and_then (fitted width) o ≡ Some w → IsWord w
+pub value_word : (width : ℕ) (o : Option ℕ) (w : BitVector) → 1 ≤ width → width ≤ WIDEST → option_and_then (fitted width) o ≡ Some w → IsWord w
 value_word width None w some most e = cc
 value_word width (Some n) w some most e = fitted_word width n w some most e
 
-read_is_word : (width base : ℕ) (digits : List ℕ) (w : BitVector) → read_word width base digits ≡ Some w → IsWord w
+pub read_is_word : (width base : ℕ) (digits : List ℕ) (w : BitVector) → read_word width base digits ≡ Some w → IsWord w
 read_is_word width base digits w e = at_test (nat_le 1 width && nat_le width WIDEST) refl e
   where
     at_test : (c : Bool) → (nat_le 1 width && nat_le width WIDEST) ≡ c → cond c (option_and_then (fitted width) (digits_value base digits)) None ≡ Some w → IsWord w
     at_test true t e = let h = and_parts (nat_le 1 width) (nat_le width WIDEST) t in value_word width (digits_value base digits) w (grind (arith, nat_tests, h.0)) (grind (arith, nat_tests, h.1)) e
     at_test false t e = cc
 
-sized_is_word : (o : Option ℕ) (base : ℕ) (digits : List ℕ) (w : BitVector) → option_and_then (λ n. read_word n base (bare digits)) o ≡ Some w → IsWord w
+pub sized_is_word : (o : Option ℕ) (base : ℕ) (digits : List ℕ) (w : BitVector) → option_and_then (λ n. read_word n base (bare digits)) o ≡ Some w → IsWord w
 sized_is_word None base digits w e = cc
 sized_is_word (Some n) base digits w e = read_is_word n base (bare digits) w e
 
-marked_is_word : (base : ℕ) (width rest : List ℕ) (w : BitVector) → marked_word base width rest ≡ Some w → IsWord w
+pub marked_is_word : (base : ℕ) (width rest : List ℕ) (w : BitVector) → marked_word base width rest ≡ Some w → IsWord w
 marked_is_word base width [] w e = cc
 marked_is_word base width (m ∷ digits) w e = sized_is_word (digits_value 10 width) base digits w e
 
-based_is_word : (bs : List ℕ) (w : BitVector) → based_word bs ≡ Some w → IsWord w
+pub based_is_word : (bs : List ℕ) (w : BitVector) → based_word bs ≡ Some w → IsWord w
 based_is_word [] w e = cc
 based_is_word (b ∷ bs) w e = by_base (base_of b) e
   where

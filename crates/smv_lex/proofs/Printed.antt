@@ -162,7 +162,7 @@ decimal_digits n lt = numerals.from (decimal n) (decimal_is_IsNumeral_wide n (sh
 decimal_value : (n : ℕ) → n < 2 ^ WIDEST → value_from 0 (decimal n) ≡ n
 decimal_value n lt = let is = decimal_is_IsNumeral_wide n (short n lt) in numerals.same (decimal n) is.0.1 ∙ is.1
 
-digit_value : (b : ℕ) → is_digit b ≡ true → (digit_number b ≡ b - 48) × (nat_lt (digit_number b) 10 ≡ true)
+pub digit_value : (b : ℕ) → is_digit b ≡ true → (digit_number b ≡ b - 48) × (nat_lt (digit_number b) 10 ≡ true)
 digit_value b e = let same : digit_number b ≡ b - 48 = rw e refl in (same, grind (arith, nat_tests, same))
 
 number_is : (bs : List ℕ) (n : ℕ) → digits_all bs ≡ true → number_after 10 n bs ≡ Some (value_from n bs)

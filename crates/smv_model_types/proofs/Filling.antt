@@ -18,11 +18,10 @@ use Rattle.smv_meaning.specs.Settled.{Acyclic, has_body, types_in, NamesSettle, 
 use Rattle.smv_meaning.specs.Bodies.{instance_within, IsBodyOrder}
 use Rattle.smv_meaning.specs.Orders.{numbered, is_listed, SameOn, TypesHangOnPaths, OrderIsComplete}
 use Rattle.smv_model_types.specs.Entries.{Entries, nameless, named_instance, or_unnamed, variable_or, entry_or, alias_or, entries_step, entries_walk, entries_single, entries_through, entries_names, HasEach, put_for, variable_put, or_else, Becomes, LeadsAs, IsPut, IsReady, Right, Has}
+use Rattle.smv_meaning.specs.laws.Booleans.{absurd_bool}
+use Rattle.smv_instances.proofs.LeadLemmas.{one_onward}
 
 -- ---- tests
-
-pub absurd_bool : {X : Type 0} → false ≡ true → X
-absurd_bool h = cc
 
 pub both_true : (a b : Bool) → (a && b) ≡ true → (a ≡ true) × (b ≡ true)
 both_true true b h = (refl, h)
@@ -122,14 +121,6 @@ walk_right t entries ks s r (x ∷ rest) i h =
 symbol_right : (t : List Instance) (b : Bool) (x : List ℕ) → named_found true nameless (if b then symbol_of x else none) ≡ meaning t (if b then symbol_of x else none)
 symbol_right t true x = refl
 symbol_right t false x = refl
-
-one_onward : (m : Found) → onward m true (λ c. instance_at c) ≡ m
-one_onward (variable_at x kind d) = refl
-one_onward (body_at i x j e) = refl
-one_onward (instance_at c) = refl
-one_onward (symbol_of x) = refl
-one_onward cyclic = refl
-one_onward none = refl
 
 not_entered : (o : Option ℕ) → alias_or None o ≡ entries_step o true unnamed (λ c. named_instance)
 not_entered None = refl

@@ -40,7 +40,7 @@ fn one_reaches<'a>(table: &Table<'a>, entries: &Entries<'a>, j: usize, paths: &[
 }
 
 // The type of a body, or None where one of its checks fails.
-#[tactic(auto, using(crate::proofs::Paths::always_known))]
+#[tactic(auto, using(smv_types::specs::laws::Known::always_known))]
 fn body_type<'a>(
     alloc: Global,
     table: &Table<'a>,

@@ -29,7 +29,7 @@ fn member_type(member: &Member) -> Ty
 }
 
 // Whether there is at least one member and all have the same type.
-#[tactic(auto, using(crate::proofs::Lists::front_is, crate::proofs::Lists::end_is))]
+#[tactic(auto, using(smv_meaning::specs::laws::Lists::front_is, smv_meaning::specs::laws::Lists::end_is))]
 fn are_same(members: &Members) -> bool
     ensures { result ≡ are_same (map member_type members.now) }
 {
@@ -46,7 +46,7 @@ fn are_same(members: &Members) -> bool
 }
 
 // The smallest type that contains all members.
-#[tactic(auto, using(crate::proofs::Lists::front_is, crate::proofs::Lists::end_is))]
+#[tactic(auto, using(smv_meaning::specs::laws::Lists::front_is, smv_meaning::specs::laws::Lists::end_is))]
 fn hull_of(members: &Members) -> Ty
     ensures { seen result ≡ hull_of (map member_type members.now) }
 {

@@ -46,7 +46,7 @@ fn items_checked(items: &Items) -> Result<(), NamesEnd>
     Ok(())
 }
 
-#[tactic(auto, using(crate::proofs::Lists::front_is, crate::proofs::Lists::end_is, smv_names::specs::laws::Composing::goes, smv_names::specs::laws::Composing::ends))]
+#[tactic(auto, using(smv_meaning::specs::laws::Lists::front_is, smv_meaning::specs::laws::Lists::end_is, smv_names::specs::laws::Composing::goes, smv_names::specs::laws::Composing::ends))]
 fn definitions_checked<'a>(
     alloc: Global,
     table: &Table<'a>,
@@ -93,7 +93,7 @@ fn named_behind<'a>(
     types.named(table, i, path)
 }
 
-#[tactic(auto, using(crate::proofs::Lists::front_is, crate::proofs::Lists::end_is, smv_names::specs::laws::Composing::goes, smv_names::specs::laws::Composing::ends))]
+#[tactic(auto, using(smv_meaning::specs::laws::Lists::front_is, smv_meaning::specs::laws::Lists::end_is, smv_names::specs::laws::Composing::goes, smv_names::specs::laws::Composing::ends))]
 fn assignments_checked<'a>(
     alloc: Global,
     table: &Table<'a>,

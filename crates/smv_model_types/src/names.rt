@@ -152,7 +152,7 @@ fn single<'a>(
 }
 
 // Steps from name to name.
-#[tactic(auto, using(crate::proofs::Lists::front_is, crate::proofs::Lists::end_is))]
+#[tactic(auto, using(smv_meaning::specs::laws::Lists::front_is, smv_meaning::specs::laws::Lists::end_is))]
 fn walked<'a>(table: &Table<'a>, entries: &Entries<'a>, i: usize, names: &Names) -> Named
     ensures { named_seen result ≡ entries_walk (map instance_plain table.now) (entries_seen entries.now) i names.now }
 {
@@ -173,7 +173,7 @@ fn walked<'a>(table: &Table<'a>, entries: &Entries<'a>, i: usize, names: &Names)
 }
 
 /// Returns the properties of a path, by the entries.
-#[tactic(auto, using(crate::proofs::Lists::front_is, crate::proofs::Lists::end_is))]
+#[tactic(auto, using(smv_meaning::specs::laws::Lists::front_is, smv_meaning::specs::laws::Lists::end_is))]
 pub(crate) fn path_named<'a>(
     table: &Table<'a>,
     entries: &Entries<'a>,

@@ -70,7 +70,7 @@ impl<'a> Types<'a> {
     /// Checks an expression in the instance with this number, and returns its type, or None where it has none.
     ///
     /// `Err` is the refusal of the first failing check, or out of memory.
-    #[tactic(auto, using(crate::proofs::Paths::always_known))]
+    #[tactic(auto, using(smv_types::specs::laws::Known::always_known))]
     pub fn expression_checked(
         &self,
         alloc: Global,
@@ -96,7 +96,7 @@ impl<'a> Types<'a> {
 ///
 /// `Err` is out of memory or the first refusal, one of S16 to S20 and S23 to S26. Instances come in preorder. In each,
 /// its actuals come first, then its elements in the order of the text.
-#[tactic(auto, using(crate::proofs::Lists::front_is, crate::proofs::Lists::end_is, smv_names::specs::laws::Composing::goes, smv_names::specs::laws::Composing::ends))]
+#[tactic(auto, using(smv_meaning::specs::laws::Lists::front_is, smv_meaning::specs::laws::Lists::end_is, smv_names::specs::laws::Composing::goes, smv_names::specs::laws::Composing::ends))]
 pub fn types_checked<'a>(
     alloc: Global,
     table: &Table<'a>,

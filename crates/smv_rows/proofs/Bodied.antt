@@ -19,7 +19,7 @@ use Rattle.smv_rows.specs.Reading.{all_read}
 use Rattle.smv_rows.specs.Filling.{Bodies, bodies_in}
 use Rattle.smv_rows.specs.RowOrders.{IsRoleBody, HaveBodies, Extends, CanAdd, Added, IsAmong, ComeFrom, holds_body, VariablesAreFree, role_number, body_numbers, RoleRanked, FormRanked, AreItemBodies, HaveRanks}
 use Rattle.smv_rows.proofs.Sets.{own}
-use Rattle.smv_rows.proofs.Filled.{not_true}
+use Rattle.digraph.proofs.Lists.{not_true}
 
 pub role_on : (old new : Bodies) → Extends old new → (r : Role) (e : FlatTree) → IsRoleBody old r e → IsRoleBody new r e
 role_on old new h (Body k) e b = h k e b

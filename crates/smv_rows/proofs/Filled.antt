@@ -22,14 +22,11 @@ use Rattle.smv_rows.specs.Filling.{Bodies, with_body, filled}
 use Rattle.smv_rows.specs.RowOrders.{IsRoleBody, HaveBodies, is_variable, VariablesAreFree, body_reads, is_settled, AllOccur}
 use Rattle.smv_rows.proofs.Sets.{same, own}
 use Rattle.smv_rows.proofs.Agreeing.{denote_same}
+use Rattle.digraph.proofs.Lists.{not_true}
 
 pub or_false : (a b : Bool) → (a || b) ≡ false → (a ≡ false) × (b ≡ false)
 or_false true b h = cc
 or_false false b h = (refl, h)
-
-pub not_true : (b : Bool) → not b ≡ true → b ≡ false
-not_true true h = cc
-not_true false h = refl
 
 -- ---- what stays
 

@@ -34,6 +34,7 @@ use Rattle.smv_flat_laws.proofs.FlatFound.{body_in, origin_body, pair, is_body_o
 use Rattle.smv_rows.specs.Reading.{all_read, links_read, branches_read, trees_read}
 use Rattle.smv_rows.specs.RowOrders.{holds_body, role_number, body_numbers, RoleRanked, FormRanked, FlatIsOrderly}
 use Rattle.smv_rows.proofs.Sets.{same, own}
+use Rattle.smv_flat_laws.proofs.FlatRows.{pair_parts}
 
 -- ---- what an expression reads is what its paths become
 
@@ -174,9 +175,6 @@ there_same t k m n h g = cc
 placed_is : (o : Option ℕ) (k : ℕ) → is_placed o k ≡ true → o ≡ Some k
 placed_is None k h = cc
 placed_is (Some n) k h = ap Some (same n k h)
-
-pair_parts : (i j : ℕ) (b e : Tree) → Some (pair i b) ≡ Some (pair j e) → (i ≡ j) × (b ≡ e)
-pair_parts i j b e h = let s : pair i b ≡ pair j e = cc in (ap (λ (p : ℕ × Tree). p.0) s, ap (λ (p : ℕ × Tree). p.1) s)
 
 -- a body reads items of lesser ranks
 abbrev pub BodyRanked : List Instance → ℕ → ℕ → Tree → Type 0

@@ -13,7 +13,8 @@ use Rattle.smv_flat.specs.FlatTree.{FlatTree}
 use Rattle.smv_rows.specs.Filling.{body_plain, body_or_none, bodies_in}
 use Rattle.smv_rows.specs.RowOrders.{body_reads, IsGraphOf, is_settled, IsOrderOf}
 use Rattle.smv_rows.proofs.Sets.{same}
-use Rattle.smv_rows.proofs.Filled.{or_false, not_true}
+use Rattle.smv_rows.proofs.Filled.{or_false}
+use Rattle.digraph.proofs.Lists.{not_true}
 
 pub all_more : {X : Type 0} (p q : X → Bool) → ((x : X) → p x ≡ true → q x ≡ true) → (xs : List X) → list_all p xs ≡ true → list_all q xs ≡ true
 all_more p q f [] h = refl

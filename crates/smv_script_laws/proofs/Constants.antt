@@ -32,12 +32,10 @@ use Rattle.smv_script_laws.proofs.Applied.{ctx}
 use Rattle.smv_script_laws.proofs.Bounds.{past_lets}
 use Rattle.smv_script_laws.proofs.SortedVariables.{IsFree, differ_by, value_or, no_variable, weaker}
 use Rattle.name_maps.proofs.FreshNames.{AllDiffer, all_made}
+use Rattle.smv_script_laws.proofs.Leaves.{some_inj}
 
 abbrev pub constant_of : List ℕ → List ℕ
 constant_of s = codes "c." ++ s
-
-pub some_inj : {X : Type 0} (a b : X) → Some a ≡ Some b → a ≡ b
-some_inj a b h = cc
 
 place_mapped : (xs : List (List ℕ)) (s : List ℕ) → place_of (map constant_of xs) (constant_of s) ≡ place_of xs s
 place_mapped [] s = refl

@@ -2,18 +2,17 @@
 use Rattle.std.proofs.Common.{◌≡◌, ℕ, zero, suc, ◌+◌, Bool, true, false, if◌then◌else◌, List, [], ◌∷◌, flat_map, Option, Some, None, bytes_eq, refl, sym, ap, ◌∙◌, subst, arith, inl, inr, ◌⊎◌}
 use Rattle.std.specs.List.{slice_get}
 use Rattle.std.proofs.lemmas.Slice.Eq.{bytes_eq-Decides}
-use Rattle.smv_text.specs.declared.tree.Parameter.{Parameter}
 use Rattle.smv_text.specs.declared.tree.VarKind.{VarKind}
 use Rattle.smv_text.specs.declared.tree.Member.{Member}
 use Rattle.smv_text.specs.declared.tree.Member.TheVariants as OfMember
-use Rattle.smv_text.specs.Tree.{Tree, truth, number, literal, name, prefix, chain, choice, cases, select, call, next, set, range, Trees, no_trees, tree, PlainDomain, boolean, members, between, bits, instance, PlainItem, PlainElement, vars, defines, constants, assigns, init, trans, invar, spec}
+use Rattle.smv_text.specs.Tree.{name, PlainDomain, boolean, members, between, bits, instance, PlainItem, PlainElement, vars, defines, constants, assigns, init, trans, invar, spec}
 use Rattle.smv_meaning.specs.Instances.{Instance}
-use Rattle.smv_meaning.specs.Names.{Local, variable_of, of_actual, of_domain, among_items, among_elements, among_parameters, parent_of, local_in, local, has_symbol, instance_has, element_has, item_has, domain_has, is_symbol}
+use Rattle.smv_meaning.specs.Names.{Local, variable_of, of_domain, among_items, among_elements, parent_of, local_in, local, has_symbol, instance_has, element_has, item_has, domain_has, is_symbol}
 use Rattle.name_maps.specs.Names.{place_of}
 use Rattle.smv_laws.proofs.Cycles.{In, in_any, in_right, flat_in}
 use Rattle.smv_laws.proofs.Ranked.{over_in}
 use Rattle.smv_items.specs.FlatItems.{variable, Origin, with_content, domain_content, variable_item, element_items, actual_items, items_here, origins_of, symbols_of}
-use Rattle.smv_flat_laws.proofs.FlatFound.{symbol_at, bytes_is, past_definitions}
+use Rattle.smv_flat_laws.proofs.FlatFound.{symbol_at, bytes_is, past_definitions, past_parameters}
 
 -- an item of this name and domain, among variables of this kind
 pub record IsDeclared (es : List PlainElement) (x : List ℕ) (kind : VarKind) (d : PlainDomain) : Type 0 where
@@ -23,33 +22,6 @@ pub record IsDeclared (es : List PlainElement) (x : List ℕ) (kind : VarKind) (
   pub there : In item items
   pub named : item.name ≡ x
   pub domain : item.domain ≡ d
-
--- a parameter is no variable
-past_parameters : (j : ℕ) (qs : List Parameter) (es : Trees) (x : List ℕ) (other : Local) (kind : VarKind) (d : PlainDomain)
-    → among_parameters j qs es x other ≡ variable_of kind d → other ≡ variable_of kind d
-past_parameters j [] es x other kind d h = h
-past_parameters j (q ∷ qs) no_trees x other kind d h = h
-past_parameters j (q ∷ qs) (tree e es) x other kind d h = by (λ s. past_parameters j qs es x other kind d s) (bytes_eq q.name x) h
-  where
-    here : (c : Tree) → of_actual j c ≡ variable_of kind d → other ≡ variable_of kind d
-    here (name p q) s = cc
-    here (truth p c) s = cc
-    here (number p n) s = cc
-    here (literal p w) s = cc
-    here (prefix p sign n c) s = cc
-    here (chain p c ls) s = cc
-    here (choice p bs c) s = cc
-    here (cases p bs) s = cc
-    here (select p c high low) s = cc
-    here (call p f cs) s = cc
-    here (next p c) s = cc
-    here (set p cs) s = cc
-    here (range p low high) s = cc
-
-    by : (among_parameters j qs es x other ≡ variable_of kind d → other ≡ variable_of kind d) → (b : Bool)
-        → (if b then of_actual j e else among_parameters j qs es x other) ≡ variable_of kind d → other ≡ variable_of kind d
-    by ih true s = here e s
-    by ih false s = ih s
 
 domain_is : (kind k : VarKind) (c d : PlainDomain) → of_domain kind c ≡ variable_of k d → (kind ≡ k) × (c ≡ d)
 domain_is kind k boolean d h = (cc, cc)

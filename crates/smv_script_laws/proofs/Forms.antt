@@ -1,5 +1,5 @@
 -- Each formula of the flat form comes from an expression of the source that has a type, operators and a width within the given one.
-use Rattle.std.proofs.Common.{◌≡◌, ℕ, suc, ◌+◌, ◌≤◌, Bool, true, false, ◌&&◌, List, [], ◌∷◌, ◌++◌, map, length, flat_map, Option, Some, None, refl, sym, ap, ◌∙◌, arith}
+use Rattle.std.proofs.Common.{◌≡◌, ℕ, ◌+◌, ◌≤◌, Bool, true, false, ◌&&◌, List, [], ◌∷◌, ◌++◌, map, length, flat_map, Option, Some, None, refl, sym, ap, ◌∙◌, arith}
 use Rattle.std.specs.Prelude.{slice_get}
 use Rattle.std.specs.List.{AllByRecursion, list_all}
 use mathlib.Core.Logic.{inr}
@@ -23,8 +23,7 @@ use Rattle.smv_meaning.specs.Settled.{Acyclic, types_in}
 use Rattle.smv_meaning.specs.Checked.{instance_all, names_instance}
 use Rattle.smv_meaning.specs.laws.Booleans.{both_true, absurd_bool}
 use Rattle.smv_laws.proofs.Agreeing.{more_paths, paths_before}
-use Rattle.smv_laws.proofs.CheckedLaws.{Lead, Checked, AllTyped, named_instance}
-use Rattle.smv_laws.proofs.Cycles.{in_left, in_right}
+use Rattle.smv_laws.proofs.CheckedLaws.{Lead, Checked, AllTyped, named_instance, left_lead, right_lead}
 use Rattle.smv_laws.proofs.Settling.{types_settle_law}
 use Rattle.smv_laws.proofs.Typable.{split, has_type}
 use Rattle.smv_items.specs.FlatItems.{Content, variable, definition, actual, Origin, with_content, actual_content, actual_items, domain_content, variable_item, definition_item, element_items, items_here, leaf_in}
@@ -34,6 +33,7 @@ use Rattle.smv_flat.specs.FlatForms.{Form, flat_in, content_form, body_forms, nu
 use Rattle.smv_flat_laws.proofs.FlatTruths.{all_parts, assignable, assigned_here}
 use Rattle.smv_width.specs.SourceWidth.{expression_width, has_operators, greatest, element_widths, actual_width, actual_widths, instance_widths}
 use Rattle.smv_script_laws.proofs.Bodies.{all_joined}
+use Rattle.smv_flat_laws.proofs.FlatStays.{IsRest, rest_more}
 
 -- ---- small facts
 
@@ -50,12 +50,6 @@ greatest_parts (x ∷ xs) ys w h =
 
 greatest_first : (x : ℕ) (xs : List ℕ) (w : ℕ) → greatest (x ∷ xs) ≤ w → (x ≤ w) × (greatest xs ≤ w)
 greatest_first x xs w h = (omega (arith, h), omega (arith, h))
-
-left_lead : (t : List Instance) (i : ℕ) (xs ys : List Path) → Lead t i (xs ++ ys) → Lead t i xs
-left_lead t i xs ys h q g = h q (in_left q xs ys g)
-
-right_lead : (t : List Instance) (i : ℕ) (xs ys : List Path) → Lead t i (xs ++ ys) → Lead t i ys
-right_lead t i xs ys h q g = h q (in_right q xs ys g)
 
 -- ---- an expression of the source
 
@@ -310,12 +304,6 @@ bodies_good t w k (m ∷ ms) g =
     all_joined (FormGood t w) (content_form t k m.instance m.content) (body_forms t (k + 1) ms) (content_good t w k m.instance m.content g.0) (bodies_good t w (k + 1) ms g.1)
 
 -- ---- all instances
-
-abbrev IsRest : List Instance → ℕ → List Instance → Type 0
-IsRest t i rest = (n : ℕ) → slice_get t (i + n) ≡ slice_get rest n
-
-rest_more : (t : List Instance) (i : ℕ) (at : Instance) (rest : List Instance) → IsRest t i (at ∷ rest) → IsRest t (i + 1) rest
-rest_more t i at rest h n = let s : (i + 1) + n ≡ i + suc n = omega arith in ap (slice_get t) s ∙ h (suc n)
 
 rest_here : (t : List Instance) (i : ℕ) (at : Instance) (rest : List Instance) → IsRest t i (at ∷ rest) → slice_get t i ≡ Some at
 rest_here t i at rest h = let s : i ≡ i + 0 = omega arith in ap (slice_get t) s ∙ h 0

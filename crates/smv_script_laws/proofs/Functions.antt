@@ -9,7 +9,7 @@ use mathlib.Core.Logic.{⊎_elim}
 use Rattle.std.specs.Int.{int_min, int_max}
 use Rattle.std.specs.List.{list_all}
 use Rattle.word_core.specs.Words.{BitVector, IsWord}
-use Rattle.word_core.specs.Table.{bit_of, signed_value, slice_of, uext_of}
+use Rattle.word_core.specs.Table.{signed_value, slice_of, uext_of}
 use Rattle.word_core.specs.declared.word.TheConstants.{WIDEST}
 use Rattle.word_core.specs.declared.kinds.Unary.TheVariants as OnWord
 use Rattle.word_core.specs.declared.kinds.Binary.TheVariants as OnWords
@@ -34,6 +34,7 @@ use Rattle.smv_script_laws.specs.Kinds.{IsOfKind}
 use Rattle.smv_script_laws.proofs.Integers.{bits_sum, bits_negated, signed_back}
 use Rattle.smv_flat_laws.proofs.FlatTruths.{and_true}
 use Rattle.smv_script_laws.proofs.Integers.{pick_true}
+use Rattle.smv_script_laws.proofs.Rows.{bit_is}
 
 -- ---- what a `let` binds
 
@@ -49,13 +50,6 @@ at_second : (vs : List Datum) (d e : Datum) (rest : List Datum) → at (vs ++ d 
 at_second vs d e rest = ap (at (vs ++ d ∷ e ∷ rest)) (add-one (length vs)) ∙ at_suc vs d e rest
 
 -- ---- tests
-
-bit_is : (b : Bool) → (bit_of b == 1) ≡ b
-bit_is true = refl
-bit_is false = refl
-
-pub pick_false : {X : Type 0} (b : Bool) (x y : X) → b ≡ false → (if b then x else y) ≡ y
-pick_false b x y e = ap (λ c. if c then x else y) e
 
 -- ---- words
 

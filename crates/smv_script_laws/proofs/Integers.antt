@@ -89,7 +89,7 @@ half (suc w) h = two-pow-succ w ∙ ap (λ v. 2 ^ v + 2 ^ v) (omega arith)
 pub pick_true : {X : Type 0} (b : Bool) (x y : X) → b ≡ true → (if b then x else y) ≡ x
 pick_true b x y e = ap (λ c. if c then x else y) e
 
-pick_false : {X : Type 0} (b : Bool) (x y : X) → b ≡ false → (if b then x else y) ≡ y
+pub pick_false : {X : Type 0} (b : Bool) (x y : X) → b ≡ false → (if b then x else y) ≡ y
 pick_false b x y e = ap (λ c. if c then x else y) e
 
 -- the code of an integer that the width holds

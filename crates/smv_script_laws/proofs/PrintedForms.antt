@@ -22,10 +22,8 @@ use Rattle.smv_meaning.specs.Parts.{expressions_in}
 use Rattle.smv_meaning.specs.Settled.{Acyclic, types_in}
 use Rattle.smv_meaning.specs.Checked.{instance_all}
 use Rattle.smv_meaning.specs.laws.Booleans.{both_true, absurd_bool}
-use Rattle.smv_laws.proofs.Agreeing.{more_paths}
-use Rattle.smv_laws.proofs.Cycles.{in_left, in_right}
 use Rattle.smv_laws.proofs.Typable.{split, has_type}
-use Rattle.smv_laws.proofs.CheckedLaws.{Lead, Checked, AllTyped}
+use Rattle.smv_laws.proofs.CheckedLaws.{Lead, Checked, AllTyped, left_lead, more_lead, right_lead}
 use Rattle.smv_laws.proofs.Settling.{types_settle_law}
 use Rattle.smv_items.specs.FlatItems.{of_item, Content, variable, definition, actual, Origin, with_content, actual_content, actual_items, domain_content, variable_item, definition_item, element_items, items_here, origins_of, leaf_in, content_type}
 use Rattle.smv_flat.specs.declared.forms.Role.{Role}
@@ -95,15 +93,6 @@ words_both xs ys h = both_true (list_all words_fit xs) (list_all words_fit ys) (
 
 operators_both : (xs ys : List Tree) → list_all has_operators (xs ++ ys) ≡ true → (list_all has_operators xs ≡ true) × (list_all has_operators ys ≡ true)
 operators_both xs ys h = both_true (list_all has_operators xs) (list_all has_operators ys) (sym (list_all-append has_operators xs ys) ∙ h)
-
-left_lead : (t : List Instance) (i : ℕ) (xs ys : List Path) → Lead t i (xs ++ ys) → Lead t i xs
-left_lead t i xs ys h q g = h q (in_left q xs ys g)
-
-right_lead : (t : List Instance) (i : ℕ) (xs ys : List Path) → Lead t i (xs ++ ys) → Lead t i ys
-right_lead t i xs ys h q g = h q (in_right q xs ys g)
-
-more_lead : (t : List Instance) (i : ℕ) (e : Tree) (more : List Path) → Lead t i (paths_of e more) → Lead t i more
-more_lead t i e more h q g = h q (more_paths e more q g)
 
 module _ (t : List Instance) (acyclic : Acyclic t) (fresh : ItemsDiffer t) (typed : AllTyped t) where
   sound : (i : ℕ) (at : Position) (e : Tree) (more : List Path) → Lead t i (paths_of e more) → words_fit e ≡ true → has_operators e ≡ true → passes (typing (types_in true t i) at e).checks ≡ true → (u : ExprType) × IsSound t i at e u

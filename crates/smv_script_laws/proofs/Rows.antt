@@ -43,7 +43,7 @@ by_both true b f g = sym (f refl)
 by_both false true f g = g refl
 by_both false false f g = refl
 
-bit_is : (b : Bool) → (bit_of b == 1) ≡ b
+pub bit_is : (b : Bool) → (bit_of b == 1) ≡ b
 bit_is true = refl
 bit_is false = refl
 

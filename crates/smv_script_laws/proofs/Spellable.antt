@@ -1,15 +1,12 @@
 -- What has no bar and no backslash can be spelled (SMT-LIB 2.6, section 3.1).
-use Rattle.std.proofs.Common.{◌≡◌, ℕ, Bool, true, false, not, ◌&&◌, if◌then◌else◌, IsTrue, List, refl}
+use Rattle.std.proofs.Common.{◌≡◌, ℕ, true, not, ◌&&◌, IsTrue, List}
 use Rattle.std.specs.List.{list_all}
 use Rattle.smv_meaning.specs.laws.Booleans.{both_true}
 use Rattle.moxi_sexpr.specs.Bytes.{is_barred_byte}
 use Rattle.moxi_sexpr.specs.Atoms.{is_simple, may_appear}
 use Rattle.moxi_sexpr.specs.Printing.{is_among, reserved_words}
 use Rattle.moxi_term_print.specs.StandingNames.{IsSpellable}
-
-pick : {X : Type 0} (P : X → Type 0) (b : Bool) (x y : X) → (b ≡ true → P x) → (b ≡ false → P y) → P (if b then x else y)
-pick P true x y h k = h refl
-pick P false x y h k = k refl
+use Rattle.moxi_script_print.proofs.SpelledCommands.{pick}
 
 pub barred_spellable : (x : List ℕ) → list_all is_barred_byte x ≡ true → IsSpellable x
 barred_spellable x h =

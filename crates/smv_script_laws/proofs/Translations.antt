@@ -40,7 +40,7 @@ use Rattle.smv_script.specs.Operators.{integer_term, choice_term, any_term, sign
 use Rattle.smv_script.specs.Terms.{is_word_in, is_word, width_in, word_width, amount_of, is_name, arguments_of, Translation, value_translation, set_translation, choice_translation, are_flat_unions, all_join_with, Coding, translation, implied_term, folded_term, link_terms, link_members, chosen_translation, taken_translation, terms, members}
 use Rattle.smv_script_laws.specs.Kinds.{IsOfKind}
 use Rattle.smv_script_laws.specs.Meanings.{Says}
-use Rattle.smv_script_laws.proofs.Integers.{signed_back}
+use Rattle.smv_script_laws.proofs.Integers.{signed_back, pick_false}
 use Rattle.smv_script_laws.proofs.Rows.{same_codes, is_divided, IsNonzero, implies_row, is_plain, infix_at, kind_same, infix_row, shift_left_row, shift_right_row, sign_row}
 use Rattle.smv_script_laws.proofs.Functions.{at_front, AreOfKinds, AreCoded, select_row, bool_row, word1_row, toint_row, extend_one, resize_one, count_row, max_row, min_row, abs_row}
 use Rattle.smv_script_laws.proofs.Typings.{branches_typed, call_typed, front_no_union, front_typed, implies_flat, implies_typed, linked_typed, node_typed, or_first, prefix_typed, range_typed, right_no_union, select_typed, set_typed, some_same, type_kept, unions_flat}
@@ -48,7 +48,6 @@ use Rattle.smv_script_laws.proofs.Known.{known_applied, known_value}
 use Rattle.smv_script_laws.proofs.Parts.{Front, IsAsWide, IsOfAll, LeafIsRepresented, SaysAll, amount_is, any_value, divisor_nonzero, extend_fits, extend_second, held_wider, hull_kind, hull_of_kind, implied_kind, joined_cons, joins_plain, joins_same, joined_end, joined_kept, joined_step, joined_word, known_kind, link_permits, logical_all, number_kept, number_value, permit_list, permits_any, pick_three, resize_fits, resize_second, toint_held, truth_code, unions_permit, wide_kept, wide_of, wide_word}
 use Rattle.smv_flat.proofs.FlatShapes.{or_false}
 use Rattle.smv_flat_laws.proofs.FlatTruths.{and_true, not_true}
-use Rattle.smv_script_laws.proofs.Functions.{pick_false}
 use Rattle.smv_script_laws.proofs.Integers.{pick_true}
 use Rattle.smv_script_laws.proofs.Translated.{by_cases, plain_link, plain_sets, plain_width, typed_if, width_if}
 

@@ -19,7 +19,7 @@ use Rattle.smv_width.specs.FlatWidth.{flat_type}
 use Rattle.smv_width.specs.SourceWidth.{has_link, has_operators, link_operators, branch_operators}
 use Rattle.smv_script.specs.Terms.{are_flat_unions}
 use Rattle.smv_flat_laws.proofs.FlatTruths.{not_true}
-use Rattle.smv_script_laws.proofs.Functions.{pick_false}
+use Rattle.smv_script_laws.proofs.Integers.{pick_false}
 
 pub node_typed : (b : Bool) (o : Option ExprType) (t : ExprType) → (if b then o else None) ≡ Some t → (b ≡ true) × (o ≡ Some t)
 node_typed true o t h = (refl, h)

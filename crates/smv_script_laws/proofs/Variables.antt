@@ -1,5 +1,5 @@
 -- In the states and labels of a model whose checks hold, each variable has a value of its type.
-use Rattle.std.proofs.Common.{◌≡◌, ℕ, zero, suc, ◌+◌, Bool, true, false, not, if◌then◌else◌, List, [], ◌∷◌, map, flat_map, Option, Some, None, refl, sym, ap, ◌∙◌, subst, arith}
+use Rattle.std.proofs.Common.{◌≡◌, ℕ, zero, ◌+◌, Bool, true, false, not, if◌then◌else◌, List, [], ◌∷◌, map, flat_map, Option, Some, None, refl, sym, ap, subst, arith}
 use Rattle.std.specs.Prelude.{slice_get}
 use Rattle.std.specs.List.{AllByRecursion, list_all}
 use Rattle.text_core.specs.declared.place.Place.{Place}
@@ -9,7 +9,7 @@ use Rattle.smv_text.specs.declared.tree.VarKind.TheVariants as OfVarKind
 use Rattle.smv_text.specs.Tree.{Tree, truth, number, literal, name, prefix, chain, choice, cases, select, call, next, set, range, Trees, no_trees, tree, PlainDomain, boolean, members, between, bits, instance, PlainItem, PlainDefinition, PlainElement, vars, defines, constants, assigns, init, trans, invar, spec}
 use Rattle.smv_meaning.specs.Values.{Valuation, is_of_type}
 use Rattle.smv_meaning.specs.Instances.{Instance, dotted}
-use Rattle.smv_meaning.specs.Names.{parent_of, path_in, dotted_at}
+use Rattle.smv_meaning.specs.Names.{parent_of, dotted_at}
 use Rattle.smv_meaning.specs.Meaning.{is_input}
 use Rattle.smv_meaning.specs.Types.{ExprType, is_unmixed, has_width, has_order, domain_type, in_limit}
 use Rattle.smv_meaning.specs.Checks.{passes, on_type, domain_checks, variable_type}
@@ -23,6 +23,7 @@ use Rattle.smv_items.specs.FlatItems.{Content, variable, definition, actual, Ori
 use Rattle.smv_script_laws.proofs.Lists.{all_at}
 use Rattle.smv_laws.proofs.CheckedLaws.{four}
 use Rattle.smv_script_laws.proofs.Bodies.{all_joined}
+use Rattle.smv_flat_laws.proofs.FlatStays.{IsRest, rest_more, rest_path}
 
 -- a variable's value, in the state, or as an input in the label
 abbrev pub value_at : Valuation → Valuation → VarKind → Valuation
@@ -124,16 +125,6 @@ elements_fit t state label i path (el ∷ es) e f g c =
     (element_fit t state label i path el e x.0 y.0 k.0) (elements_fit t state label i path es e x.1 y.1 k.1)
 
 -- ---- all instances
-
--- the rest of the instances from a number on
-abbrev IsRest : List Instance → ℕ → List Instance → Type 0
-IsRest t i rest = (n : ℕ) → slice_get t (i + n) ≡ slice_get rest n
-
-rest_more : (t : List Instance) (i : ℕ) (at : Instance) (rest : List Instance) → IsRest t i (at ∷ rest) → IsRest t (i + 1) rest
-rest_more t i at rest h n = let s : (i + 1) + n ≡ i + suc n = omega arith in ap (slice_get t) s ∙ h (suc n)
-
-rest_path : (t : List Instance) (i : ℕ) (at : Instance) (rest : List Instance) → IsRest t i (at ∷ rest) → (x : List ℕ) → dotted_at t i x ≡ dotted at.path x
-rest_path t i at rest h x = let s : i ≡ i + 0 = omega arith in ap (λ (o : Option Instance). dotted (path_in o) x) (ap (slice_get t) s ∙ h 0)
 
 instances_fit : (t : List Instance) (state label : Valuation) (i : ℕ) (rest : List Instance) → IsRest t i rest → state_fits rest state ≡ true → label_fits rest label ≡ true
     → passes (over_instances (type_checks (types_in true t)) i rest) ≡ true → AllFit t state label (over_instances items_here i rest)

@@ -1,8 +1,8 @@
 -- Lists from a place on.
-use Rattle.std.proofs.Common.{◌≡◌, ℕ, ◌+◌, ◌<◌, ◌≤◌, true, false, ◌&&◌, ◌||◌, Option, Some, is_none, List, [], ◌∷◌, ◌++◌, length, drop, sym, ap, ◌∙◌, append_assoc, arith}
+use Rattle.std.proofs.Common.{◌≡◌, ℕ, ◌+◌, ◌<◌, ◌≤◌, true, false, ◌&&◌, ◌||◌, Option, Some, is_none, List, [], ◌∷◌, ◌++◌, length, drop, ap, ◌∙◌}
 use Rattle.std.specs.Prelude.{slice_index_or, slice_get}
 use Rattle.std.proofs.lemmas.Bool.{and_parts}
-use Rattle.std.proofs.lemmas.List.{drop_more, drop_all}
+use Rattle.std.proofs.lemmas.List.{drop_more}
 use Rattle.std.proofs.lemmas.Option.{slice_get_within, get_or_from_slice_get}
 use Rattle.name_maps.specs.Names.{are_fresh, place_of}
 use Rattle.smv_meaning.specs.declared.value.Value.{Value}
@@ -10,16 +10,7 @@ use Rattle.smv_items.specs.FlatItems.{PlainFlatItem}
 use Rattle.smv_trace.specs.declared.heading.Heading.{Heading}
 use Rattle.smv_trace.specs.Runs.{picks}
 use Rattle.smv_trace.specs.Reading.{lacks, given_if, values_of}
-
-pub front_is : {X : Type 0} (xs : List X) (i n : ℕ) (x : X) → n ≡ length xs → i < n → x ≡ slice_index_or xs i x → drop i xs ≡ x ∷ drop (i + 1) xs
-front_is xs i n x e l is = drop_more xs i x (omega (arith, e, l)) ∙ ap (λ y. y ∷ drop (i + 1) xs) (sym is)
-
-pub end_is : {X : Type 0} (xs : List X) (i n : ℕ) → n ≡ length xs → n ≤ i → drop i xs ≡ []
-end_is xs i n e l = drop_all i xs (omega (arith, e, l))
-
--- what was put at the end counts as the front of what is to come
-pub joined_on : {X : Type 0} (front more : List X) (x : X) → (front ++ x ∷ []) ++ more ≡ front ++ x ∷ more
-joined_on front more x = append_assoc front (x ∷ []) more
+use Rattle.smv_meaning.specs.laws.Lists.{end_is, front_is}
 
 front_at : {X : Type 0} (xs : List X) (i : ℕ) (x : X) → slice_get xs i ≡ Some x → drop i xs ≡ x ∷ drop (i + 1) xs
 front_at xs i x is = drop_more xs i x (slice_get_within xs i x is) ∙ ap (λ y. y ∷ drop (i + 1) xs) (get_or_from_slice_get xs i x x is)

@@ -10,7 +10,7 @@ use Rattle.std.proofs.lemmas.Str.Parse.{IsNumeralModel, numerals_by_fold}
 use Rattle.std.proofs.lemmas.Fmt.{digits_value-decimal, decimal_nonempty}
 use Rattle.std.proofs.lemmas.Slice.Eq.{bytes_eq-Decides}
 use Rattle.word_core.specs.Words.{BitVector}
-use Rattle.word_core.specs.Digits.{below, digit_number, number_after, digits_value}
+use Rattle.word_core.specs.Digits.{below, number_after, digits_value}
 use Rattle.text_core.specs.Bytes.{is_digit}
 use Rattle.smv_text.specs.Bytes.{is_blank}
 use Rattle.smv_text.specs.Numbers.{number_of, literal_of}
@@ -25,6 +25,7 @@ use Rattle.smv_trace.specs.Runs.{can_be_stated, is_word_of}
 use Rattle.smv_trace.specs.Values.{truth_of, negative_of, integer_of, symbol_at, word_as, value_of}
 use Rattle.smv_trace.proofs.Solid.{is_solid, is_named, all_both, decimal_digits, decimal_solid, named_solid, named_some}
 use Rattle.smv_trace.proofs.Literals.{of_word, literal_again}
+use Rattle.smv_lex.proofs.Printed.{digit_value}
 
 -- ---- numbers
 
@@ -38,9 +39,6 @@ value_from n (b ∷ bs) = value_from (n * 10 + (b - 48)) bs
 
 numerals : IsNumeralModel (λ ds. digits_all ds ≡ true) (value_from 0)
 numerals = numerals_by_fold _ (search rules) value_from (search rules)
-
-digit_value : (b : ℕ) → is_digit b ≡ true → (digit_number b ≡ b - 48) × (nat_lt (digit_number b) 10 ≡ true)
-digit_value b e = let same : digit_number b ≡ b - 48 = rw e refl in (same, grind (arith, nat_tests, same))
 
 number_is : (bs : List ℕ) (n : ℕ) → list_all is_digit bs ≡ true → number_after 10 n bs ≡ Some (value_from n bs)
 number_is [] n e = refl

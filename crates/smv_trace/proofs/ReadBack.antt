@@ -26,7 +26,7 @@ use Rattle.smv_trace.specs.Texts.{lines_read, most_bytes}
 use Rattle.smv_trace.specs.ReadBack.{ReadsBack}
 use Rattle.smv_trace.proofs.Steps.{passed_step}
 use Rattle.smv_trace.proofs.PrintedLines.{claim_line, claim_cut, claim_one_line, claim_passed}
-use Rattle.smv_trace.proofs.Restated.{restated, restated_long, restated_values, others_kept, state_apart, picked}
+use Rattle.smv_trace.proofs.Restated.{restated, restated_long, restated_values, others_kept, state_apart, picked, neither}
 use Rattle.smv_trace.proofs.PrintedSteps.{IsTold, reading, ComesTo, line_read, values_read, state_line_read, label_line_read}
 
 -- ---- limits
@@ -56,10 +56,6 @@ no_inputs kind.Frozen h = refl
 no_inputs kind.Input h = absurd (let e : true ≡ false = h in cc)
 no_inputs kind.Define h = refl
 no_inputs kind.Actual h = refl
-
-neither : (a b : Bool) → (a || b) ≡ false → (a ≡ false) × (b ≡ false)
-neither true b h = absurd (let e : true ≡ false = h in cc)
-neither false b h = (refl, h)
 
 none_picked : (ms : List PlainFlatItem) → has_inputs ms ≡ false → picked Input ms ≡ []
 none_picked [] h = refl

@@ -28,7 +28,7 @@ fresh_front before (y ∷ ys) back x h =
     let t = and_parts (is_none (place_of before y)) (are_fresh (before ++ y ∷ []) (ys ++ x ∷ back)) h in
     ap (λ l. is_none (place_of l x)) (sym (append_assoc before (y ∷ []) ys)) ∙ fresh_front (before ++ y ∷ []) ys back x t.1
 
-neither : (a b : Bool) → (a || b) ≡ false → (a ≡ false) × (b ≡ false)
+pub neither : (a b : Bool) → (a || b) ≡ false → (a ≡ false) × (b ≡ false)
 neither true b h = absurd (let e : true ≡ false = h in cc)
 neither false b h = (refl, h)
 

@@ -29,6 +29,7 @@ use Rattle.text_core.specs.declared.end.End.{End}
 use Rattle.smv_trace.specs.Answer.{Answers}
 use Rattle.smv_trace.specs.Texts.{lines_read, most_bytes, trace_of}
 use Rattle.smv_trace.proofs.Literals.{literal_is_word, word_of}
+use Rattle.smv_lex.proofs.LexedAgain.{some_same}
 
 -- ---- results
 
@@ -55,9 +56,6 @@ same_ok : {A : Type 0} (x y : A) → done x ≡ done y → x ≡ y
 same_ok x y e = cc
 
 -- ---- values
-
-some_same : {A : Type 0} (x y : A) → Some x ≡ Some y → x ≡ y
-some_same x y e = cc
 
 truth_fits : (symbols : List (List ℕ)) (o : Option Bool) (v : Value) → option_map Truth o ≡ Some v → can_be_stated symbols truth_type v ≡ true
 truth_fits symbols None v e = absurd (let g : None ≡ Some v = e in cc)

@@ -35,7 +35,7 @@ impl<'a> Model for Table<'a> {
 }
 
 // The names of the items, which are distinct.
-#[tactic(auto, using(crate::proofs::Lists::front_is, crate::proofs::Lists::end_is, crate::proofs::Lists::joined_on, crate::proofs::Lists::first_fresh, crate::proofs::Lists::rest_fresh))]
+#[tactic(auto, using(smv_meaning::specs::laws::Lists::front_is, smv_meaning::specs::laws::Lists::end_is, name_maps::proofs::KeyLaws::joined_on, crate::proofs::Lists::first_fresh, crate::proofs::Lists::rest_fresh))]
 fn names_of(alloc: Global, items: &FlatItems) -> Result<NameTable, NoMemory>
     requires { are_fresh [] (map (λ m. m.name) (map item_plain items.now)) ≡ true }
     ensures { IfOk result (λ names. names ≡ map (λ m. m.name) (map item_plain items.now)) }
@@ -56,7 +56,7 @@ fn is_variable(item: &FlatItem) -> bool
 }
 
 // The number of variables, including inputs.
-#[tactic(auto, using(crate::proofs::Lists::front_is, crate::proofs::Lists::end_is))]
+#[tactic(auto, using(smv_meaning::specs::laws::Lists::front_is, smv_meaning::specs::laws::Lists::end_is))]
 fn variables_in(items: &FlatItems) -> usize
     ensures { result ≡ length (variables_of (map item_plain items.now)) }
 {

@@ -1,46 +1,13 @@
 -- The least of failing tests, and tests one after another.
-use Rattle.std.proofs.Common.{◌≡◌, ◌<◌, ◌≤◌, Bool, ◌&&◌, inl, inr, true, false, cond, nat_lt, Option, None, Some, List, [], ◌∷◌, ◌++◌, append-nil, append_assoc, refl, sym, ap, ◌∙◌, arith}
-use Rattle.std.proofs.lemmas.Bool.{cases_lt}
-use Rattle.std.proofs.lemmas.Bool.Decides.{nat_tests}
+use Rattle.std.proofs.Common.{◌≡◌, Bool, ◌&&◌, true, false, Option, None, Some, List, [], ◌++◌, append-nil, append_assoc, refl, sym, ap, ◌∙◌}
 use Rattle.text_core.specs.declared.place.Refusal.{Refusal}
-use Rattle.moxi_term_reading.specs.Failures.{key, pick, minimum, least}
+use Rattle.moxi_term_reading.specs.Failures.{minimum, least}
 use Rattle.moxi_scripts.specs.Collecting.{also}
-
-pick_other : (a b : Refusal) → key b < key a → pick a b ≡ b
-pick_other a b h = let e : nat_lt (key b) (key a) ≡ true = grind (arith, nat_tests) in ap (λ t. cond t b a) e
-
-pick_first : (a b : Refusal) → key a ≤ key b → pick a b ≡ a
-pick_first a b h = let e : nat_lt (key b) (key a) ≡ false = grind (arith, nat_tests) in ap (λ t. cond t b a) e
-
-pick_assoc : (a b c : Refusal) → pick a (pick b c) ≡ pick (pick a b) c
-pick_assoc a b c =
-    elim (cases_lt (key b) (key a)) [
-      | inl x ↦ elim (cases_lt (key c) (key b)) [
-        | inl y ↦ ap (pick a) (pick_other b c y) ∙ pick_other a c (omega arith) ∙ sym (ap (λ z. pick z c) (pick_other a b x) ∙ pick_other b c y)
-        | inr y ↦ ap (pick a) (pick_first b c y) ∙ pick_other a b x ∙ sym (ap (λ z. pick z c) (pick_other a b x) ∙ pick_first b c y)
-      ]
-      | inr x ↦ elim (cases_lt (key c) (key a)) [
-        | inl y ↦ ap (pick a) (pick_other b c (omega arith)) ∙ sym (ap (λ z. pick z c) (pick_first a b x))
-        | inr y ↦ elim (cases_lt (key c) (key b)) [
-          | inl z ↦ ap (pick a) (pick_other b c z) ∙ sym (ap (λ z. pick z c) (pick_first a b x))
-          | inr z ↦ ap (pick a) (pick_first b c z) ∙ pick_first a b x ∙ sym (ap (λ z. pick z c) (pick_first a b x) ∙ pick_first a c y)
-        ]
-      ]
-    ]
+use Rattle.moxi_term_reading.specs.laws.Least.{least_append, minimum_assoc}
 
 minimum_none : (a : Option Refusal) → minimum a None ≡ a
 minimum_none None = refl
 minimum_none (Some a) = refl
-
-minimum_assoc : (a b c : Option Refusal) → minimum a (minimum b c) ≡ minimum (minimum a b) c
-minimum_assoc None b c = refl
-minimum_assoc (Some a) None c = refl
-minimum_assoc (Some a) (Some b) None = refl
-minimum_assoc (Some a) (Some b) (Some c) = ap Some (pick_assoc a b c)
-
-least_append : (xs ys : List Refusal) → least (xs ++ ys) ≡ minimum (least xs) (least ys)
-least_append [] ys = refl
-least_append (x ∷ xs) ys = ap (minimum (Some x)) (least_append xs ys) ∙ minimum_assoc (Some x) (least xs) (least ys)
 
 pub also_none : (found : Option Refusal) → also found [] ≡ found
 unfolding also

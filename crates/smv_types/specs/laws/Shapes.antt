@@ -34,7 +34,7 @@ plain_choice e branches last h = search (rules, expr_lemmas)
 
 -- ---- a chain of `->`
 
-implies_across : (op : Infix) (e : Tree) (ls : Links) (at : Position) → is_implies op ≡ true → across (link op e ls) at ≡ single at
+pub implies_across : (op : Infix) (e : Tree) (ls : Links) (at : Position) → is_implies op ≡ true → across (link op e ls) at ≡ single at
 implies_across OfInfix.Implies e ls at h = refl
 implies_across op e ls at h = absurd_bool h
 

@@ -2,8 +2,8 @@ use Rattle.std.proofs.Common.{◌+◌, drop, map, length, ap, arith, length-appe
 use Rattle.std.specs.Prelude.{flat_map}
 use Rattle.smv_text.specs.View.{plain_element}
 use Rattle.smv_meaning.specs.Phases.{element_invariants}
-use Rattle.smv_flatten.proofs.Lists.{front_is, end_is}
 use Rattle.smv_flatten.proofs.counts.counted_all.Goals as goal
+use Rattle.smv_meaning.specs.laws.Lists.{end_is, front_is}
 
 pub loop-k-preserved : goal.loop-k-preserved
 loop-k-preserved c = λ i.

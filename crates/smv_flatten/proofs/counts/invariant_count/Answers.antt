@@ -3,8 +3,8 @@ use Rattle.std.specs.Prelude.{flat_map}
 use Rattle.smv_meaning.specs.Phases.{element_invariants, over_instances}
 use Rattle.smv_meaning.specs.Instances.{Instance}
 use Rattle.smv_instances.specs.View.{instance_plain}
-use Rattle.smv_flatten.proofs.Lists.{front_is}
 use Rattle.smv_flatten.proofs.counts.invariant_count.Goals as goal
+use Rattle.smv_meaning.specs.laws.Lists.{front_is}
 
 pub loop-i-preserved : goal.loop-i-preserved
 loop-i-preserved c =
