@@ -36,5 +36,5 @@ pub fn lines_are_spelled(nodes: &Nodes)
     ensures { SpellsLines (printed nodes.now) nodes.now }
 {
     printed_spells();
-    let _count = nodes.len();
+    nodes.are_well_formed();
 }

@@ -204,8 +204,7 @@ impl Judge {
         ensures ended { has_ended self.new ≡ true }
         ensures same { has_ended self.old ≡ true → self.new ≡ self.old }
     {
-        // This call's contract says that the lines are well-formed.
-        let _count = nodes.len();
+        nodes.are_well_formed();
         if self.ended {
             return self.answer();
         }

@@ -62,8 +62,7 @@ impl Reader {
     pub fn new(alloc: Global, nodes: &Nodes) -> Result<Reader, NoMemory>
         ensures { IfOk result (λ reader. IsAt nodes.now reader begin) }
     {
-        // This call's contract says that the lines are well-formed.
-        let _count = nodes.len();
+        nodes.are_well_formed();
         let states = state_widths(alloc, nodes)?;
         let inputs = input_widths(alloc, nodes)?;
         Ok(Reader {
@@ -263,8 +262,7 @@ impl Reader {
         ensures fits { FramesFit nodes.now self.new.frames }
         ensures judged { JudgesHeld nodes.now last self.old self.new }
     {
-        // This call's contract says that the lines are well-formed.
-        let _count = nodes.len();
+        nodes.are_well_formed();
         match self.verdict {
             Verdict::Yes => {
                 self.frames
@@ -315,8 +313,7 @@ impl Reader {
         requires inside { k < length self.now.places }
         ensures { IsTrue result ↔ AgreesAt (places_of is_state nodes.now) self.now.frames.row self.now.states k }
     {
-        // This call's contract says that the lines are well-formed.
-        let _count = nodes.len();
+        nodes.are_well_formed();
         if !self.states.is_marked(k) {
             return true;
         }

@@ -47,8 +47,7 @@ pub fn simplify(alloc: Global, nodes: &Nodes) -> Result<Nodes, NoMemory>
     ensures simplified { IfOk result (λ new. IsSimplified nodes.now new) }
     ensures only { IfOk result (λ new. (other : List Line) → IsSimplified nodes.now other → other ≡ new) }
 {
-    // This call's contract says that the lines are well-formed.
-    let _count = nodes.len();
+    nodes.are_well_formed();
     let fates = fates_of(alloc, nodes)?;
     let marks = marks_of(alloc, nodes, &fates)?;
     let order = order_of(alloc, nodes, &fates, &marks)?;

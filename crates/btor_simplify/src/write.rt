@@ -178,8 +178,7 @@ pub fn lines_of(
     for q in 0..order.places.len() {
         put_line(alloc, nodes, fates, order, &mut lines, q)?;
     }
-    // This call's contract says that the lines are well-formed.
-    let _count = lines.len();
+    lines.are_well_formed();
     Ok(lines)
 }
 

@@ -93,6 +93,13 @@ impl Nodes {
         self.items.len()
     }
 
+    /// Proves that the lines are well-formed. It does nothing.
+    pub fn are_well_formed(&self)
+        ensures { IsWellFormed self.now }
+    {
+        let _ = &self.items;
+    }
+
     /// Returns the line at index `i`, counted from 0.
     pub fn at(&self, i: usize) -> &Line
         requires { i < length self.now }

@@ -148,8 +148,7 @@ pub fn print_witness(alloc: Global, nodes: &Nodes, witness: &Witness) -> Result<
     // Within the limits of the reader it spells the same witness, with its statements in rising order.
     ensures read { IsWithinLimits nodes.now witness.now → IfOk result (λ text. SpellsWitness nodes.now text (rising_witness (sizes_of nodes.now) witness.now)) }
 {
-    // This call's contract says that the lines fit one another.
-    let _count = nodes.len();
+    nodes.are_well_formed();
     printed_is_read();
     let mut out = Text::new(alloc);
     out.put(b"sat\n")?;

@@ -38,7 +38,7 @@ impl Room {
         ensures fits { IfOk result (λ room. RoomFits nodes.now room) }
         ensures none { IfOk result (λ room. room.frames.begun ≡ false) }
     {
-        let _count = nodes.len();
+        nodes.are_well_formed();
         let inputs = input_widths(alloc, nodes)?;
         let states = state_widths(alloc, nodes)?;
         Ok(Room {
@@ -60,7 +60,7 @@ impl Room {
         ensures begun { self.new.frames.begun ≡ true }
         ensures next { IsStatedFrame nodes.now self.old.frames.begun self.old.frames.row (statement_of frame.now) self.new.frames.row }
     {
-        let _count = nodes.len();
+        nodes.are_well_formed();
         put_stated(&mut self.inputs, &frame.inputs);
         put_stated(&mut self.free, &frame.states);
         self.frames.step(nodes, &self.inputs, &self.free);

@@ -27,7 +27,7 @@ whole c new w fits =
       marks = c.in_ok-marks.marks.items;
       places = order.places.items;
       moved = order.moved.items;
-      known = known lines c.in_ok-fates.fates.items c.len-count.ensures.well_formed c.in_ok-fates.ensures.fates c.in_ok-fates.ensures.sized;
+      known = known lines c.in_ok-fates.fates.items c.are_well_formed.ensures c.in_ok-fates.ensures.fates c.in_ok-fates.ensures.sized;
       marked = subst (λ fs. AreMarks lines fs 0 c.in_ok-marks.marks.items) c.deref.ensures.value c.in_ok-marks.ensures;
       order = subst (λ fs. IsOrder lines fs n order.places.items order.moved.items) c.deref-2.ensures.value c.in_ok-order.ensures.order;
       placed = c.in_ok-order.ensures.placed ∙ ap (λ fs. order_upto lines fs c.deref-3.result.now n) c.deref-2.ensures.value ∙ ap (λ ms. order_upto lines c.in_ok-fates.fates.items ms n) c.deref-3.ensures.value;
@@ -50,11 +50,11 @@ returns-clause-words c = ok_two c.lines_of.result _ _ _ (λ new w f. keeps_words
 
 pub returns-clause-runs : goal.returns-clause-runs
 returns-clause-runs c =
-    ok_two c.lines_of.result _ _ _ (λ new w f. keeps_runs c.args.nodes.now new c.len-count.ensures.well_formed f (keeps_words c.args.nodes.now new (whole c new w f))) c.lines_of.ensures.written c.lines_of.ensures.well_formed
+    ok_two c.lines_of.result _ _ _ (λ new w f. keeps_runs c.args.nodes.now new c.are_well_formed.ensures f (keeps_words c.args.nodes.now new (whole c new w f))) c.lines_of.ensures.written c.lines_of.ensures.well_formed
 
 pub returns-clause-witnesses : goal.returns-clause-witnesses
 returns-clause-witnesses c =
-    ok_two c.lines_of.result _ _ _ (λ new w f. keeps_witnesses c.args.nodes.now new c.len-count.ensures.well_formed f (keeps_words c.args.nodes.now new (whole c new w f))) c.lines_of.ensures.written c.lines_of.ensures.well_formed
+    ok_two c.lines_of.result _ _ _ (λ new w f. keeps_witnesses c.args.nodes.now new c.are_well_formed.ensures f (keeps_words c.args.nodes.now new (whole c new w f))) c.lines_of.ensures.written c.lines_of.ensures.well_formed
 
 pub returns-clause-distinct : goal.returns-clause-distinct
 returns-clause-distinct c = ok_two c.lines_of.result _ _ _ (λ new w f. no_two_same c.args.nodes.now new (whole c new w f)) c.lines_of.ensures.written c.lines_of.ensures.well_formed

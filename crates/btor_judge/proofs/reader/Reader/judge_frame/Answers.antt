@@ -12,7 +12,7 @@ step-requires-clause-handed c =
     let lines = c.args.nodes.now in
     let old = c.args.self.now in
     subst (λ (ws : List BitVector). SuppliedFit lines ws c.words-in-Yes.result.now) (sym c.words.ensures)
-    (subst (λ (ws : List BitVector). SuppliedFit lines old.inputs.words ws) (sym c.words-in-Yes.ensures) (frame_handed lines old c.requires.0 c.len-count.ensures.well_formed c.requires.1))
+    (subst (λ (ws : List BitVector). SuppliedFit lines old.inputs.words ws) (sym c.words-in-Yes.ensures) (frame_handed lines old c.requires.0 c.are_well_formed.ensures c.requires.1))
 
 pub failure-requires-clause-frame : goal.failure-requires-clause-frame
 failure-requires-clause-frame c = (c.requires.0, stepped c.args.nodes.now c.args.self.now c.requires.0 c.step.new.self c.requires.1 c.step.ensures.fits)

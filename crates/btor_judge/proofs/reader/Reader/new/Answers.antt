@@ -8,10 +8,10 @@ use Rattle.btor_judge.proofs.Passing.{fresh_judged}
 use Rattle.btor_judge.proofs.reader.Reader.new.Goals as goal
 
 pub new-requires : goal.new-requires
-new-requires c = subst AreWidths (sym c.in_ok-states.ensures) (are_widths c.args.nodes.now is_state c.len-count.ensures.well_formed state_has_word)
+new-requires c = subst AreWidths (sym c.in_ok-states.ensures) (are_widths c.args.nodes.now is_state c.are_well_formed.ensures state_has_word)
 
 pub new-requires-2 : goal.new-requires-2
-new-requires-2 c = subst AreWidths (sym c.in_ok-inputs.ensures) (are_widths c.args.nodes.now is_input c.len-count.ensures.well_formed input_has_word)
+new-requires-2 c = subst AreWidths (sym c.in_ok-inputs.ensures) (are_widths c.args.nodes.now is_input c.are_well_formed.ensures input_has_word)
 
 pub returns : goal.returns
 returns c = record {

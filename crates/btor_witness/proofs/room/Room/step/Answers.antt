@@ -14,7 +14,7 @@ step-requires-clause-handed c =
     let f = c.args.frame.now in
     let h = put_holds (widths_of is_input lines) f.inputs c.args.self.now.inputs c.put_stated.new.words c.requires.fits.inputs c.put_stated.ensures in
     let k = put_holds (widths_of is_state lines) f.states c.args.self.now.free c.put_stated-2.new.words c.requires.fits.free c.put_stated-2.ensures in
-    handed_fit lines f c.put_stated.new.words c.put_stated-2.new.words c.len-count.ensures.well_formed c.requires.inputs c.requires.states h k
+    handed_fit lines f c.put_stated.new.words c.put_stated-2.new.words c.are_well_formed.ensures c.requires.inputs c.requires.states h k
 
 pub put_zeros-requires-clause-below : goal.put_zeros-requires-clause-below
 put_zeros-requires-clause-below c =
