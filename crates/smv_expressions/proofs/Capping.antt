@@ -5,7 +5,7 @@ use Rattle.text_core.specs.declared.place.Place.{Place}
 use Rattle.smv_text.specs.declared.operators.Infix.{Infix}
 use Rattle.smv_text.specs.Tree.{Tree, truth, links_of, branches_of, trees_of}
 use Rattle.smv_text.specs.Heights.{height, highest, folded, folded_right, chain_height, branches_height, is_joined, is_implied, link_heights, branch_heights, heights, place_of}
-use Rattle.smv_grammar.specs.MeasuredExpr.{Read, cap, capped, keep_at}
+use Rattle.smv_grammar.specs.Kept.{Read, cap, capped, keep_at}
 use Rattle.smv_expressions.specs.Gathered.{low, low_link, low_branch, highest_branch, highest_link, highest_before, last_height}
 
 -- what is kept of a tree

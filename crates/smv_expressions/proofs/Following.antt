@@ -8,7 +8,7 @@ use Rattle.smv_text.specs.Tree.{Tree}
 use Rattle.smv_grammar.specs.declared.levels.Leader.TheVariants as leader
 use Rattle.smv_expressions.specs.declared.stop.Stop.{Stop}
 use Rattle.smv_expressions.specs.declared.stop.Stop.TheVariants.{Dead, NoMemory}
-use Rattle.smv_grammar.specs.MeasuredExpr.{Read, cap}
+use Rattle.smv_grammar.specs.Kept.{Read, cap}
 use Rattle.smv_grammar.specs.Machine.{Frame, State, ask, have, upto, high_end, leader_of, failed, walk, took}
 use Rattle.smv_grammar.specs.Reading.{after, first_integer, first_path, Found}
 use Rattle.smv_expressions.specs.Following.{IsLost, Finds, Dies, Leads, Follows, Misses, Passes, Gathers, Collects, Takes, Selects, SelectsNone}

@@ -15,7 +15,7 @@ use Rattle.smv_text.specs.Heights.{height, highest, chain_height, link_heights}
 use Rattle.smv_text.specs.View.{plain, plain_link, plain_branch}
 use Rattle.smv_expressions.specs.declared.kept.MeasuredExpr.{MeasuredExpr}
 use Rattle.smv_grammar.specs.declared.listing.Listing.TheVariants.{Arguments, Elements}
-use Rattle.smv_grammar.specs.MeasuredExpr.{cap, capped, keep_at}
+use Rattle.smv_grammar.specs.Kept.{cap, capped, keep_at}
 use Rattle.smv_grammar.specs.Machine.{whole, choice_at, listed}
 use Rattle.smv_expressions.specs.Gathered.{read_of, shaped, low, low_link, low_branch, highest_branch}
 use Rattle.smv_expressions.proofs.Capping.{cap_height, keeps, chain-within, low_is, low_links, low_branches, low_trees, heights-map, branches_height-highest}

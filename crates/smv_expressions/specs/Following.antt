@@ -12,7 +12,7 @@ use Rattle.smv_grammar.specs.declared.levels.Leader.{Leader}
 use Rattle.smv_grammar.specs.declared.levels.Leader.TheVariants as leader
 use Rattle.smv_expressions.specs.declared.stop.Stop.{Stop}
 use Rattle.smv_expressions.specs.declared.stop.Stop.TheVariants.{Dead, NoMemory}
-use Rattle.smv_grammar.specs.MeasuredExpr.{Read, cap}
+use Rattle.smv_grammar.specs.Kept.{Read, cap}
 use Rattle.smv_grammar.specs.Ranks.{tightest}
 use Rattle.smv_grammar.specs.Machine.{Frame, State, bare, operand, when, whole, choice_at, ask, have, high_end, selected, failed, walk, took, dead, run}
 use Rattle.smv_grammar.specs.Reading.{Found, after, found, lost, starts_range, waiting}

@@ -12,7 +12,7 @@ use Rattle.smv_expressions.specs.declared.kept.Members.{Members}
 use Rattle.smv_expressions.specs.declared.kept.Cases.{Cases}
 use Rattle.smv_expressions.specs.declared.kept.Heights.{Heights}
 use Rattle.smv_expressions.specs.declared.kept.Operands.{Operands}
-use Rattle.smv_grammar.specs.MeasuredExpr.{Read, cap, capped}
+use Rattle.smv_grammar.specs.Kept.{Read, cap, capped}
 
 -- what is kept
 abbrev pub read_of : MeasuredExpr → Read

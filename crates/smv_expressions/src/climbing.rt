@@ -6,7 +6,7 @@ ghost use Rattle.std.specs.Prelude.{◌≡◌, ◌<◌, ◌≤◌, ◌-◌, ◌^
 ghost use Rattle.smv_text.specs.Levels.{all_levels};
 ghost use Rattle.smv_text.specs.Grammar.{start, Spells};
 ghost use Rattle.smv_text.specs.Tree.{Tree, cases, branches_of};
-ghost use Rattle.smv_grammar.specs.MeasuredExpr.{cap};
+ghost use Rattle.smv_grammar.specs.Kept.{cap};
 ghost use Rattle.smv_grammar.specs.Ranks.{level_at, tightest};
 ghost use Rattle.smv_expressions.specs.Gathered.{read_of, AreMembers, AreCases, AreOperands, IsChoice};
 ghost use Rattle.smv_grammar.specs.Machine.{bare, operand, when, selected, condition, listing, ask, have, signed, open_next, opened, prefix_sign, closing_of, leader_of, whole, choice_at, listed};

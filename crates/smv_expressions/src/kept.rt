@@ -5,7 +5,7 @@ ghost use Rattle.smv_text.specs.Heights.{height, chain_height, is_implied, is_jo
 ghost use Rattle.smv_text.specs.Tree.{Tree, prefix, select, next, cases, branches_of};
 ghost use Rattle.smv_text.specs.View.{plain};
 ghost use Rattle.smv_expressions.specs.declared.stop.Stop.TheVariants.{NoMemory};
-ghost use Rattle.smv_grammar.specs.MeasuredExpr.{cap, capped, keep_at};
+ghost use Rattle.smv_grammar.specs.Kept.{cap, capped, keep_at};
 ghost use Rattle.smv_grammar.specs.Machine.{listed, choice_at, whole};
 ghost use Rattle.smv_expressions.specs.Gathered.{read_of, shaped, single, AreMembers, AreCases, AreHeights, AreOperands, first_number};
 

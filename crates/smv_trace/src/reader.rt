@@ -98,22 +98,31 @@ fn add_given(
     }
 }
 
-// The values of the heading's variables, in order.
+// The values of the heading's variables, in order. There is room for so many from the start.
 #[tactic(auto, using(crate::proofs::Lists::values_end))]
 fn values_of(
     alloc: Global,
     table: &Table,
     heading: Heading,
     stated: &[Option<Value>],
+    room: usize,
 ) -> Result<State, NoMemory>
     requires { length stated.now ≡ length table.now.items }
     ensures { IfOk result (λ state. state ≡ values_of heading table.now.items stated.now) }
 {
-    let mut state = State::new(alloc);
+    let mut state = State::with_capacity(alloc, room)?;
     for k in 0..table.len() {
         add_given(alloc, &mut state, heading, table.item(k), &stated[k])?;
     }
     Ok(state)
+}
+
+// The room for the values of one more heading: those of the last one of its kind, or those of all variables.
+fn room_behind(before: &States, table: &Table) -> usize {
+    match before.as_slice().last() {
+        Some(state) => state.len(),
+        None => table.variables(),
+    }
 }
 
 // Whether an item is a variable of the heading without a value.
@@ -233,7 +242,8 @@ impl Reader {
         if self.states.len() == 0 {
             return Ok(());
         }
-        let label = values_of(alloc, table, Heading::Input, &self.stated)?;
+        let room = room_behind(&self.labels, table);
+        let label = values_of(alloc, table, Heading::Input, &self.stated, room)?;
         self.labels.push(label)
     }
 
@@ -243,7 +253,8 @@ impl Reader {
         ensures step { OnOk result (self.new ≡ with_state table.now self.old) }
     {
         self.add_label(alloc, table)?;
-        let state = values_of(alloc, table, Heading::State, &self.stated)?;
+        let room = room_behind(&self.states, table);
+        let state = values_of(alloc, table, Heading::State, &self.stated, room)?;
         self.states.push(state)
     }
 

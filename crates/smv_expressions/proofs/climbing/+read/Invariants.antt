@@ -3,7 +3,7 @@ use Rattle.text_core.specs.declared.place.Place.{Place}
 use Rattle.smv_text.specs.declared.operators.Infix.{Infix}
 use Rattle.smv_text.specs.Levels.{all_levels}
 use Rattle.smv_text.specs.Tree.{Tree}
-use Rattle.smv_grammar.specs.MeasuredExpr.{cap}
+use Rattle.smv_grammar.specs.Kept.{cap}
 use Rattle.smv_grammar.specs.Ranks.{tightest}
 use Rattle.smv_expressions.specs.Gathered.{read_of, AreMembers, AreCases, AreOperands}
 use Rattle.smv_grammar.specs.Machine.{Frame, bare, operand, when, listing, condition, ask, have, signed, walk}

@@ -5,7 +5,7 @@ use Rattle.std.proofs.lemmas.Int.{ints}
 use Rattle.std.proofs.lemmas.Result.{err_from_is_err_and}
 use Rattle.smv_text.specs.Tree.{range}
 use Rattle.smv_text.specs.Grammar.{start}
-use Rattle.smv_grammar.specs.MeasuredExpr.{cap}
+use Rattle.smv_grammar.specs.Kept.{cap}
 use Rattle.smv_grammar.specs.Ranks.{tightest}
 use Rattle.smv_grammar.specs.Machine.{ask, have, upto, walk}
 use Rattle.smv_expressions.proofs.Keeping.{leaf_range}

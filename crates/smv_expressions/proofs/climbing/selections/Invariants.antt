@@ -1,6 +1,6 @@
 use Rattle.std.proofs.Common.{◌≡◌, ◌∷◌, ◌≤◌, length}
 use Rattle.smv_text.specs.Tree.{Tree}
-use Rattle.smv_grammar.specs.MeasuredExpr.{cap}
+use Rattle.smv_grammar.specs.Kept.{cap}
 use Rattle.smv_expressions.specs.Gathered.{read_of}
 use Rattle.smv_grammar.specs.Machine.{selected, have}
 use Rattle.smv_expressions.specs.Following.{Reads}

@@ -1,6 +1,6 @@
 use Rattle.std.proofs.Common.{◌≡◌, ℕ, List, [], ◌∷◌, false, ap, ◌∙◌}
 use Rattle.smv_text.specs.Tree.{name}
-use Rattle.smv_grammar.specs.MeasuredExpr.{cap}
+use Rattle.smv_grammar.specs.Kept.{cap}
 use Rattle.smv_expressions.proofs.Keeping.{leaf_name}
 use Rattle.smv_expressions.proofs.kept.name_leaf.Goals as goal
 

@@ -1,7 +1,7 @@
 use Rattle.std.proofs.Common.{◌≡◌, suc, ap, ◌∙◌, sym, arith, if◌then◌else◌}
 use Rattle.smv_text.specs.Heights.{folded, folded_right, is_implied}
 use Rattle.smv_expressions.specs.Gathered.{highest_link}
-use Rattle.smv_grammar.specs.MeasuredExpr.{capped}
+use Rattle.smv_grammar.specs.Kept.{capped}
 use Rattle.smv_expressions.proofs.Capping.{folded_right-before}
 use Rattle.smv_expressions.proofs.kept.Heights.height.Goals as goal
 

@@ -1,6 +1,6 @@
 use Rattle.std.proofs.Common.{ℕ, ap, ◌∙◌, sym, arith}
 use Rattle.smv_text.specs.declared.operators.Infix.{Infix}
-use Rattle.smv_grammar.specs.MeasuredExpr.{capped}
+use Rattle.smv_grammar.specs.Kept.{capped}
 use Rattle.smv_expressions.proofs.Capping.{length-push, highest_link-push, folded-push, highest_before-push, last_height-push}
 use Rattle.smv_expressions.proofs.kept.Heights.with.Goals as goal
 

@@ -1,5 +1,5 @@
 use Rattle.std.proofs.Common.{ap, ◌∙◌, sym, arith}
-use Rattle.smv_grammar.specs.MeasuredExpr.{cap}
+use Rattle.smv_grammar.specs.Kept.{cap}
 use Rattle.smv_grammar.specs.Machine.{listed}
 use Rattle.smv_expressions.proofs.Keeping.{keeps_call, keeps_set}
 use Rattle.smv_expressions.proofs.kept.Members.put.Goals as goal

@@ -3,7 +3,7 @@ use Rattle.std.proofs.lemmas.List.{length-map}
 use Rattle.smv_text.specs.Heights.{height, link_heights}
 use Rattle.smv_text.specs.Tree.{links_of}
 use Rattle.smv_text.specs.View.{plain_link}
-use Rattle.smv_grammar.specs.MeasuredExpr.{cap}
+use Rattle.smv_grammar.specs.Kept.{cap}
 use Rattle.smv_grammar.specs.Machine.{whole}
 use Rattle.smv_expressions.specs.Gathered.{low_link}
 use Rattle.smv_expressions.proofs.Capping.{none_so_far}
