@@ -1,18 +1,17 @@
 -- Where words come from, and the words of a frame after frame 0.
 use Rattle.std.proofs.Common.{◌≡◌, ◌≢◌, ℕ, zero, suc, ◌+◌, ◌<◌, ◌≤◌, Bool, true, false, List, [], ◌∷◌, ◌++◌, length, take, cond, Some, refl, sym, ap, ◌∙◌, subst, arith, inl, inr}
-use Rattle.std.specs.Prelude.{slice_get, slice_index_or, slice_set, IfSome}
+use Rattle.std.specs.Prelude.{slice_get, slice_set, IfSome}
 use Rattle.std.specs.Option.{option_map_or}
 use Rattle.std.proofs.lemmas.Option.{same_Some}
 use Rattle.std.proofs.lemmas.List.{get_or-set_other}
 use Rattle.word_core.specs.Words.{BitVector}
 use Rattle.word_core.specs.Table.{binary_of, ite_of, unary_of, BinaryFits}
 use Rattle.word_core.specs.declared.kinds.Binary.{Binary as BinaryKind}
-use Rattle.word_core.specs.declared.kinds.Unary.{Unary as UnaryKind}
 use Rattle.word_core.specs.declared.kinds.Unary.TheVariants.{Not}
 use Rattle.btor_tree.specs.declared.args.Arg.{Arg}
 use Rattle.btor_tree.specs.declared.lines.Line.{Line}
 use Rattle.btor_tree.specs.declared.lines.LineOp.{LineOp}
-use Rattle.btor_tree.specs.declared.lines.LineOp.TheVariants.{Sort, Input, State, Constant, One, Zero, Ones, Init, Next, Bad, Constraint, Output, Unary, Binary, Ite}
+use Rattle.btor_tree.specs.declared.lines.LineOp.TheVariants.{Sort, Input, State, Constant, One, Zero, Ones, Init, Next, Bad, Constraint, Output}
 use Rattle.btor_tree.specs.Fits.{IsWellFormed, OnOne, OnTwo, OnThree, count_of, has_word, is_constant, is_input, is_next, is_state, kind_at, plain_arg, state_value}
 use Rattle.btor_tree.specs.Frame.{nothing, read_or, word_at, operand, IsFrame}
 use Rattle.btor_tree.proofs.Grows.{inside_get, push_cases, slice_get_inside}
@@ -20,75 +19,12 @@ use Rattle.btor_tree.proofs.Words.{computed}
 use Rattle.btor_tree.proofs.Rows.{row_upto, word_upto}
 use Rattle.btor_tree.proofs.Paths.{constant_is, pick}
 use Rattle.btor_frames.specs.declared.sources.Source.{Source}
-use Rattle.btor_frames.specs.declared.sources.Source.TheVariants.{NoWord, FromLast, FromLastNot, NotOf, AndOf, OrOf, EqOf, IteOf}
-use Rattle.btor_frames.specs.Sources.{negated_arg, HoldsSources, IsBlank, IsJoined, IsOfArgs, IsOfLast, IsOfNext, IsOfOne, IsOfThree, IsOnBoth, IsOnOne, IsOnThree, IsSource, IsStateOf}
+use Rattle.btor_frames.specs.declared.sources.Source.TheVariants.{NoWord}
+use Rattle.btor_frames.specs.Sources.{HoldsSources, IsBlank, IsOfLast, IsOnBoth, IsOnOne, IsOnThree, IsSource, IsStateOf}
 use Rattle.btor_frames.specs.Steps.{is_given, supplied_at, SuppliedFit}
 use Rattle.btor_frames.proofs.Handing.{if_some_at}
 use Rattle.btor_frames.proofs.Lines.{binary_owes, binary_puts, constant_gives, if_some, ite_gives, ite_owes, put_here, unary_gives, unary_owes, value_inside}
 use Rattle.btor_frames.proofs.Loop.{count_step, giving, made_here, one_more, taken_here}
-
-pub plain_is : (a : Arg) (c : ℕ) → a.negated ≡ false → a.line ≡ c → a ≡ plain_arg c
-plain_is a c n e = ap {B = Arg} (λ b. record { line = a.line; negated = b }) n ∙ ap plain_arg e
-
-both_plain : (args : List Arg) (a b : Arg) (c d : ℕ) → args ≡ a ∷ b ∷ [] → a.negated ≡ false → b.negated ≡ false → a.line ≡ c → b.line ≡ d → args ≡ plain_arg c ∷ plain_arg d ∷ []
-both_plain args a b c d e n m h k =
-    e ∙ ap (λ x. x ∷ b ∷ []) (plain_is a c n h) ∙ ap (λ y. plain_arg c ∷ y ∷ []) (plain_is b d m k)
-
--- what holds of the lines of two arguments that are not negated holds of the arguments
-pub joined_of_args : (op : BinaryKind) (args : List Arg) (a b : Arg) (s : Source) → args ≡ a ∷ b ∷ [] → a.negated ≡ false → b.negated ≡ false → IsJoined op a.line b.line s → IsOfArgs op args s
-joined_of_args op args a b (AndOf c d) e n m h = (h.0, both_plain args a b c d e n m h.1 h.2)
-joined_of_args op args a b (OrOf c d) e n m h = (h.0, both_plain args a b c d e n m h.1 h.2)
-joined_of_args op args a b (EqOf c d) e n m h = (h.0, both_plain args a b c d e n m h.1 h.2)
-joined_of_args op args a b s e n m h = h
-
--- the only argument, and all three
-pub one_there : (args : List Arg) (a : Arg) → length args ≡ 1 → a ≡ slice_index_or args 0 a → args ≡ a ∷ []
-one_there [] a h e = absurd (omega (arith, h))
-one_there (x ∷ []) a h e = ap (λ y. y ∷ []) (sym e)
-one_there (x ∷ y ∷ more) a h e = absurd (omega (arith, h))
-
-pub three_there : (args : List Arg) (c a b : Arg) → length args ≡ 3 → c ≡ slice_index_or args 0 c → a ≡ slice_index_or args 1 a → b ≡ slice_index_or args 2 b → args ≡ c ∷ a ∷ b ∷ []
-three_there [] c a b h e f g = absurd (omega (arith, h))
-three_there (x ∷ []) c a b h e f g = absurd (omega (arith, h))
-three_there (x ∷ y ∷ []) c a b h e f g = absurd (omega (arith, h))
-three_there (x ∷ y ∷ z ∷ []) c a b h e f g =
-    ap (λ u. u ∷ y ∷ z ∷ []) (sym e) ∙ ap (λ u. c ∷ u ∷ z ∷ []) (sym f) ∙ ap (λ u. c ∷ a ∷ u ∷ []) (sym g)
-three_there (x ∷ y ∷ z ∷ w ∷ more) c a b h e f g = absurd (omega (arith, h))
-
--- they are plain where they are not negated
-pub plain_one : (args : List Arg) (a : Arg) → args ≡ a ∷ [] → a.negated ≡ false → args ≡ plain_arg a.line ∷ []
-plain_one args a e n = e ∙ ap (λ x. x ∷ []) (plain_is a a.line n refl)
-
-pub plain_three : (args : List Arg) (c a b : Arg) → args ≡ c ∷ a ∷ b ∷ [] → c.negated ≡ false → a.negated ≡ false → b.negated ≡ false → args ≡ plain_arg c.line ∷ plain_arg a.line ∷ plain_arg b.line ∷ []
-plain_three args c a b e n m k =
-    e
-    ∙ ap (λ x. x ∷ a ∷ b ∷ []) (plain_is c c.line n refl)
-    ∙ ap (λ x. plain_arg c.line ∷ x ∷ b ∷ []) (plain_is a a.line m refl)
-    ∙ ap (λ x. plain_arg c.line ∷ plain_arg a.line ∷ x ∷ []) (plain_is b b.line k refl)
-
-pub negated_is : (a : Arg) → a.negated ≡ true → a ≡ negated_arg a.line
-negated_is a n = ap {B = Arg} (λ b. record { line = a.line; negated = b }) n
-
--- what holds of one argument, of three and of a next holds of the line
-pub one_of_line : (lines : List Line) (i : ℕ) (l : Line) (op : UnaryKind) (s : Source) → l.op ≡ Unary op → IsOfOne op l.args s → IsSource lines i l s
-one_of_line lines i l op (NotOf a) e h = (e ∙ ap Unary h.0, h.1)
-one_of_line lines i l op s e h = subst (IsSource lines i l) (sym h) (ap is_given e)
-
-pub three_of_line : (lines : List Line) (i : ℕ) (l : Line) (s : Source) → l.op ≡ Ite → IsOfThree l.args s → IsSource lines i l s
-three_of_line lines i l (IteOf c a b) e h = (e, h)
-three_of_line lines i l s e h = subst (IsSource lines i l) (sym h) (ap is_given e)
-
-pub next_of_line : (lines : List Line) (i : ℕ) (l : Line) (a : Arg) (s : Source) → IsStateOf lines i l a → IsOfNext a s → IsSource lines i l s
-next_of_line lines i l a (FromLast n) e h = inl (subst (IsStateOf lines i l) h e)
-next_of_line lines i l a (FromLastNot n) e h = subst (IsStateOf lines i l) h e
-next_of_line lines i l a s e h = absurd h
-
--- what holds of the arguments holds of the line
-pub args_of_line : (lines : List Line) (i : ℕ) (l : Line) (op : BinaryKind) (s : Source) → l.op ≡ Binary op → IsOfArgs op l.args s → IsSource lines i l s
-args_of_line lines i l op (AndOf a b) e h = (e ∙ ap Binary h.0, h.1)
-args_of_line lines i l op (OrOf a b) e h = (e ∙ ap Binary h.0, h.1)
-args_of_line lines i l op (EqOf a b) e h = (e ∙ ap Binary h.0, h.1)
-args_of_line lines i l op s e h = subst (IsSource lines i l) (sym h) (ap is_given e)
 
 -- the sources so far, and one more
 abbrev pub AreSources : List Line → List Source → Type 0
