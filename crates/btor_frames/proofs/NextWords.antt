@@ -1,48 +1,30 @@
 -- Where words come from, and the words of a frame after frame 0.
-use Rattle.std.proofs.Common.{◌≡◌, ◌≢◌, ℕ, ◌+◌, ◌<◌, ◌≤◌, Bool, true, false, List, [], ◌∷◌, ◌++◌, length, take, Some, refl, sym, ap, ◌∙◌, subst, arith, inl, inr}
+use Rattle.std.proofs.Common.{◌≡◌, ◌≢◌, ℕ, zero, suc, ◌+◌, ◌<◌, ◌≤◌, Bool, true, false, List, [], ◌∷◌, ◌++◌, length, take, cond, Some, refl, sym, ap, ◌∙◌, subst, arith, inl, inr}
 use Rattle.std.specs.Prelude.{slice_get, slice_set, IfSome}
+use Rattle.std.specs.Option.{option_map_or}
 use Rattle.std.proofs.lemmas.Option.{same_Some}
 use Rattle.std.proofs.lemmas.List.{get_or-set_other}
 use Rattle.word_core.specs.Words.{BitVector}
-use Rattle.word_core.specs.Table.{binary_of, BinaryFits}
+use Rattle.word_core.specs.Table.{binary_of, ite_of, unary_of, BinaryFits}
 use Rattle.word_core.specs.declared.kinds.Binary.{Binary as BinaryKind}
+use Rattle.word_core.specs.declared.kinds.Unary.TheVariants.{Not}
 use Rattle.btor_tree.specs.declared.args.Arg.{Arg}
 use Rattle.btor_tree.specs.declared.lines.Line.{Line}
 use Rattle.btor_tree.specs.declared.lines.LineOp.{LineOp}
-use Rattle.btor_tree.specs.declared.lines.LineOp.TheVariants.{Sort, Init, Next, Bad, Constraint, Output, Binary}
-use Rattle.btor_tree.specs.Fits.{IsWellFormed, OnTwo, has_word, plain_arg}
-use Rattle.btor_tree.specs.Frame.{nothing, word_at, operand, IsFrame}
+use Rattle.btor_tree.specs.declared.lines.LineOp.TheVariants.{Sort, Input, State, Constant, One, Zero, Ones, Init, Next, Bad, Constraint, Output}
+use Rattle.btor_tree.specs.Fits.{IsWellFormed, OnOne, OnTwo, OnThree, count_of, has_word, is_constant, is_input, is_next, is_state, kind_at, plain_arg, state_value}
+use Rattle.btor_tree.specs.Frame.{nothing, read_or, word_at, operand, IsFrame}
 use Rattle.btor_tree.proofs.Grows.{inside_get, push_cases, slice_get_inside}
 use Rattle.btor_tree.proofs.Words.{computed}
 use Rattle.btor_tree.proofs.Rows.{row_upto, word_upto}
+use Rattle.btor_tree.proofs.Paths.{constant_is, pick}
 use Rattle.btor_frames.specs.declared.sources.Source.{Source}
-use Rattle.btor_frames.specs.declared.sources.Source.TheVariants.{NoWord, AndOf, OrOf, EqOf}
-use Rattle.btor_frames.specs.Sources.{HoldsSources, IsBlank, IsJoined, IsOfArgs, IsOnBoth, IsSource}
-use Rattle.btor_frames.specs.Steps.{is_given}
+use Rattle.btor_frames.specs.declared.sources.Source.TheVariants.{NoWord}
+use Rattle.btor_frames.specs.Sources.{HoldsSources, IsBlank, IsOfLast, IsOnBoth, IsOnOne, IsOnThree, IsSource, IsStateOf}
+use Rattle.btor_frames.specs.Steps.{is_given, supplied_at, SuppliedFit}
 use Rattle.btor_frames.proofs.Handing.{if_some_at}
-use Rattle.btor_frames.proofs.Lines.{binary_owes, binary_puts}
-use Rattle.btor_frames.proofs.Loop.{giving, made_here, one_more}
-
-plain_is : (a : Arg) (c : ℕ) → a.negated ≡ false → a.line ≡ c → a ≡ plain_arg c
-plain_is a c n e = ap {B = Arg} (λ b. record { line = a.line; negated = b }) n ∙ ap plain_arg e
-
-both_plain : (args : List Arg) (a b : Arg) (c d : ℕ) → args ≡ a ∷ b ∷ [] → a.negated ≡ false → b.negated ≡ false → a.line ≡ c → b.line ≡ d → args ≡ plain_arg c ∷ plain_arg d ∷ []
-both_plain args a b c d e n m h k =
-    e ∙ ap (λ x. x ∷ b ∷ []) (plain_is a c n h) ∙ ap (λ y. plain_arg c ∷ y ∷ []) (plain_is b d m k)
-
--- what holds of the lines of two arguments that are not negated holds of the arguments
-pub joined_of_args : (op : BinaryKind) (args : List Arg) (a b : Arg) (s : Source) → args ≡ a ∷ b ∷ [] → a.negated ≡ false → b.negated ≡ false → IsJoined op a.line b.line s → IsOfArgs op args s
-joined_of_args op args a b (AndOf c d) e n m h = (h.0, both_plain args a b c d e n m h.1 h.2)
-joined_of_args op args a b (OrOf c d) e n m h = (h.0, both_plain args a b c d e n m h.1 h.2)
-joined_of_args op args a b (EqOf c d) e n m h = (h.0, both_plain args a b c d e n m h.1 h.2)
-joined_of_args op args a b s e n m h = h
-
--- what holds of the arguments holds of the line
-pub args_of_line : (lines : List Line) (i : ℕ) (l : Line) (op : BinaryKind) (s : Source) → l.op ≡ Binary op → IsOfArgs op l.args s → IsSource lines i l s
-args_of_line lines i l op (AndOf a b) e h = (e ∙ ap Binary h.0, h.1)
-args_of_line lines i l op (OrOf a b) e h = (e ∙ ap Binary h.0, h.1)
-args_of_line lines i l op (EqOf a b) e h = (e ∙ ap Binary h.0, h.1)
-args_of_line lines i l op s e h = subst (IsSource lines i l) (sym h) (ap is_given e)
+use Rattle.btor_frames.proofs.Lines.{binary_owes, binary_puts, constant_gives, if_some, ite_gives, ite_owes, put_here, unary_gives, unary_owes, value_inside}
+use Rattle.btor_frames.proofs.Loop.{count_step, giving, made_here, one_more, taken_here}
 
 -- the sources so far, and one more
 abbrev pub AreSources : List Line → List Source → Type 0
@@ -108,6 +90,106 @@ module _ (lines : List Line) (last inputs free row : List BitVector) (i : ℕ) w
       let on : OnTwo l.args (λ x y. new ≡ slice_set row i (binary_of op (operand row x) (operand row y))) =
       subst (λ args. OnTwo args (λ x y. new ≡ slice_set row i (binary_of op (operand row x) (operand row y)))) (sym h.1) e in
       made_here lines row new i (giving true lines last inputs free) l g (ap is_given h.0) (binary_puts lines i l row w g inside long op new h.0 on)
+
+  -- a word that is given
+  puts_given : (l : Line) (new : List BitVector) (x : BitVector) → slice_get lines i ≡ Some l → is_given l.op ≡ true → x ≡ giving true lines last inputs free l.op i (take i row) → new ≡ slice_set row i x → Puts new
+  puts_given l new x g is h e =
+      taken_here lines row new i (giving true lines last inputs free) l x g is (if_some (slice_get lines i) (λ k. x ≡ giving true lines last inputs free k.op i (take i row)) l g h) e
+
+  -- the next of a state
+  pub puts_next : (l : Line) (a : Arg) (new : List BitVector) → slice_get lines i ≡ Some l → IsStateOf lines i l a → new ≡ slice_set row i (operand last a) → Puts new
+  puts_next l a new g h e =
+      let x = supplied_at lines inputs free i in
+      let is : operand last a ≡ giving true lines last inputs free l.op i (take i row) =
+      sym (ap (λ o. pick o (state_value is_next lines i) (operand last) x) h.0 ∙ ap (λ o. read_or o (operand last) x) h.1) in
+      puts_given l new (operand last a) g (ap is_given h.0) is e
+
+  not_given : (op : LineOp) → is_constant op ≡ true → is_given op ≡ false
+  not_given (Constant x) h = refl
+  not_given One h = refl
+  not_given Zero h = refl
+  not_given Ones h = refl
+  not_given op h = absurd (cc)
+
+  module _ (l : Line) (new : List BitVector) (w : IsWellFormed lines) (inside : i < length lines) (long : length row ≡ length lines) (g : slice_get lines i ≡ Some l) where
+    -- a constant, or the next of a state
+    pub puts_last : (n : ℕ) → IsFrame lines last → IsOfLast lines i l n → new ≡ slice_set row i (word_at last n) → Puts new
+    puts_last n f h e =
+        elim h [
+          | inl state ↦ puts_next l (plain_arg n) new g state e
+          | inr constant ↦
+              let c = constant.0 in
+              let at : kind_at is_constant lines i ≡ true = ap (λ o. option_map_or (λ (k : Line). is_constant k.op) o false) g ∙ c in
+              let here : new ≡ slice_set row i (word_at last i) = e ∙ ap (λ k. slice_set row i (word_at last k)) constant.1 in
+              made_here lines row new i (giving true lines last inputs free) l g (not_given l.op c)
+              (put_here lines i row new (word_at last i) here (constant_gives lines i l row w g inside long (word_at last i) nothing c (constant_is lines last i w f.meets at)))
+        ]
+
+    -- the bitwise not of a word
+    pub puts_not : (a : ℕ) → IsOnOne a l → new ≡ slice_set row i (unary_of Not (word_at row a)) → Puts new
+    puts_not a h e =
+        let x = unary_of Not (word_at row a) in
+        let on : OnOne l.args (λ y. x ≡ unary_of Not (operand row y)) = subst (λ args. OnOne args (λ y. x ≡ unary_of Not (operand row y))) (sym h.1) refl in
+        made_here lines row new i (giving true lines last inputs free) l g (ap is_given h.0)
+        (put_here lines i row new x e (unary_gives lines i l row w g inside long Not x nothing h.0 on))
+
+    -- an if-then-else
+    pub puts_ite : (c a b : ℕ) → IsOnThree c a b l → new ≡ slice_set row i (ite_of (word_at row c) (word_at row a) (word_at row b)) → Puts new
+    puts_ite c a b h e =
+        let x = ite_of (word_at row c) (word_at row a) (word_at row b) in
+        let on : OnThree l.args (λ u v y. x ≡ ite_of (operand row u) (operand row v) (operand row y)) =
+        subst (λ args. OnThree args (λ u v y. x ≡ ite_of (operand row u) (operand row v) (operand row y))) (sym h.1) refl in
+        made_here lines row new i (giving true lines last inputs free) l g (ap is_given h.0)
+        (put_here lines i row new x e (ite_gives lines i l row w g inside long x nothing h.0 on))
+
+-- the first lines have no more lines of a kind than all
+count_front : (kind : LineOp → Bool) (lines : List Line) (k : ℕ) → count_of kind (take k lines) ≤ count_of kind lines
+count_front kind [] zero = omega arith
+count_front kind [] (suc k) = omega arith
+count_front kind (l ∷ ls) zero = omega arith
+count_front kind (l ∷ ls) (suc k) = omega (arith, count_front kind ls k)
+
+-- a line's number among those of its kind
+pub numbered_inside : (kind : LineOp → Bool) (lines : List Line) (i n : ℕ) (l : Line) → slice_get lines i ≡ Some l → kind l.op ≡ true → n ≡ count_of kind (take i lines) → n < count_of kind lines
+numbered_inside kind lines i n l g k e =
+    omega (arith, e, ap {B = ℕ} (λ b. cond b 1 0) k, count_step kind lines i l g, count_front kind lines (i + 1))
+
+pub input_inside : (lines : List Line) (inputs free : List BitVector) (i n : ℕ) (l : Line) → SuppliedFit lines inputs free → slice_get lines i ≡ Some l → (l.op ≡ Input) × (n ≡ count_of is_input (take i lines)) → n < length inputs
+input_inside lines inputs free i n l f g h =
+    omega (arith, f.inputs_long, numbered_inside is_input lines i n l g (ap is_input h.0) h.1)
+
+pub free_inside : (lines : List Line) (inputs free : List BitVector) (i n : ℕ) (l : Line) → SuppliedFit lines inputs free → slice_get lines i ≡ Some l → l.op ≡ State → n ≡ count_of is_state (take i lines) → n < length free
+free_inside lines inputs free i n l f g h e =
+    omega (arith, f.free_long, numbered_inside is_state lines i n l g (ap is_state h) e)
+
+-- a line that is read in the frame before
+pub next_inside : (lines : List Line) (last : List BitVector) (i : ℕ) (l : Line) (a : Arg) → IsWellFormed lines → IsFrame lines last → IsStateOf lines i l a → a.line < length last
+next_inside lines last i l a w f h = omega (arith, f.sized, value_inside true lines i a w h.1)
+
+pub last_inside : (lines : List Line) (last : List BitVector) (i n : ℕ) (l : Line) → IsWellFormed lines → IsFrame lines last → i < length lines → IsOfLast lines i l n → n < length last
+last_inside lines last i n l w f inside h =
+    elim h [
+      | inl state ↦ next_inside lines last i l (plain_arg n) w f state
+      | inr constant ↦ omega (arith, f.sized, inside, constant.1)
+    ]
+
+-- what a bitwise not owes
+pub not_inside : (lines : List Line) (row : List BitVector) (i a : ℕ) (l : Line) → IsWellFormed lines → i < length lines → length row ≡ length lines → slice_get lines i ≡ Some l → IsOnOne a l → a < length row
+not_inside lines row i a l w inside long g h =
+    subst (λ args. OnOne args (λ x. x.line < length row)) h.1 (unary_owes lines i l row w g inside long Not h.0)
+
+-- what an if-then-else owes
+pub record Chooses (c a b : ℕ) (row : List BitVector) : Type 0 where
+  pub condition : c < length row
+  pub first : a < length row
+  pub second : b < length row
+  pub one_bit : (word_at row c).width ≡ 1
+  pub widths : (word_at row a).width ≡ (word_at row b).width
+
+pub chooses : (lines : List Line) (row : List BitVector) (i c a b : ℕ) (l : Line) → IsWellFormed lines → i < length lines → length row ≡ length lines → IsFrame (take i lines) (take i row) → slice_get lines i ≡ Some l → IsOnThree c a b l → Chooses c a b row
+chooses lines row i c a b l w inside long f g h =
+    let on = subst (λ args. OnThree args (λ x y z. (x.line < length row) × (y.line < length row) × (z.line < length row) × ((operand row x).width ≡ 1) × ((operand row y).width ≡ (operand row z).width))) h.1 (ite_owes lines i l row w g inside long h.0 f) in
+    record { condition = on.0; first = on.1; second = on.2; one_bit = on.3; widths = on.4 }
 
 -- what an operator on two lines owes
 pub record Joins (op : BinaryKind) (a b : ℕ) (row : List BitVector) : Type 0 where

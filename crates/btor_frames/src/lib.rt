@@ -5,6 +5,7 @@ mod fill;
 mod frames;
 mod handed;
 mod next;
+mod nodes;
 mod sources;
 mod tables;
 mod words;

@@ -1,7 +1,7 @@
 // The source of each line's word in the frames after frame 0, found once for all of them.
 ghost use Rattle.std.specs.Prelude.{◌≡◌, ◌<◌, ◌^◌, false, true, take, IfOk};
 ghost use Rattle.btor_tree.specs.Fits.{count_of, is_input, is_next, is_state, state_value};
-ghost use Rattle.btor_frames.specs.Sources.{HoldsSources, IsJoined, IsOfArgs, IsSource};
+ghost use Rattle.btor_frames.specs.Sources.{HoldsSources, IsJoined, IsOfArgs, IsOfNext, IsOfOne, IsOfThree, IsSource};
 ghost use Rattle.btor_frames.specs.Steps.{is_given};
 ghost use Rattle.btor_frames.specs.Tables.{HoldsValues};
 
@@ -9,7 +9,7 @@ use crate::handed::{is_given, with_input, with_state};
 use btor_tree::{Arg, Args, Line, LineOp, Nodes, has_word};
 use std::alloc::Global;
 use text_core::{List, NoMemory};
-use word_core::Binary;
+use word_core::{Binary, Unary};
 
 /// The source of a line's word in a frame after frame 0.
 ///
@@ -22,16 +22,60 @@ pub enum Source {
     FromInput(u32),
     /// The line is the state of this number, and has no next.
     FromFree(u32),
-    /// The line is a state with this next, which is read in the frame before.
-    FromLast(Arg),
+    /// The line's word is that of this line in the frame before: its next's where it is a state, or its own where it is
+    /// a constant.
+    FromLast(u32),
+    /// The line is a state whose next is the bitwise not of this line, which is read in the frame before.
+    FromLastNot(u32),
+    /// The line is the bitwise not of the word of a line.
+    NotOf(u32),
     /// The line is the bitwise and of the words of two lines.
     AndOf(u32, u32),
     /// The line is the bitwise or of the words of two lines.
     OrOf(u32, u32),
     /// The line says whether the words of two lines are the same.
     EqOf(u32, u32),
-    /// The line itself has to be read: a constant, or another operator.
+    /// The line is the word of the second line where that of the first is one, else the word of the third.
+    IteOf(u32, u32, u32),
+    /// The line itself has to be read: it is of another operator, or an argument is negated.
     ByLine,
+}
+
+// The source of the word of an operator on one argument.
+fn unary_source(op: Unary, args: &Args) -> Source
+    ensures { IsOfOne op args.now result }
+{
+    if args.len() != 1 {
+        return Source::ByLine;
+    }
+    let a = *args.at(0);
+    match op {
+        Unary::Not => {
+            if a.negated {
+                Source::ByLine
+            } else {
+                Source::NotOf(a.line)
+            }
+        }
+        _ => Source::ByLine,
+    }
+}
+
+// The source of the word of an if-then-else.
+fn ite_source(args: &Args) -> Source
+    ensures { IsOfThree args.now result }
+{
+    if args.len() != 3 {
+        return Source::ByLine;
+    }
+    let c = *args.at(0);
+    let a = *args.at(1);
+    let b = *args.at(2);
+    if c.negated || a.negated || b.negated {
+        Source::ByLine
+    } else {
+        Source::IteOf(c.line, a.line, b.line)
+    }
 }
 
 // The source of an operator's word on two lines, where neither is negated.
@@ -64,11 +108,17 @@ fn binary_source(op: Binary, args: &Args) -> Source
 
 // The source of the word of a line that is neither an input nor a state.
 fn computed_source(nodes: &Nodes, i: usize, line: &Line) -> Source
-    requires { is_given line.now.op ≡ false }
+    requires computed { is_given line.now.op ≡ false }
+    requires few_lines { i < 2 ^ 31 }
     ensures { IsSource nodes.now i line.now result }
 {
     match line.op {
+        LineOp::Constant(_) | LineOp::One | LineOp::Zero | LineOp::Ones => {
+            Source::FromLast(i as u32)
+        }
+        LineOp::Unary(op) => unary_source(op, &line.args),
         LineOp::Binary(op) => binary_source(op, &line.args),
+        LineOp::Ite => ite_source(&line.args),
         _ => {
             if has_word(&line.op) {
                 Source::ByLine
@@ -76,6 +126,17 @@ fn computed_source(nodes: &Nodes, i: usize, line: &Line) -> Source
                 Source::NoWord
             }
         }
+    }
+}
+
+// The source of the word of a state with this next.
+fn next_source(next: Arg) -> Source
+    ensures { IsOfNext next result }
+{
+    if next.negated {
+        Source::FromLastNot(next.line)
+    } else {
+        Source::FromLast(next.line)
     }
 }
 
@@ -100,7 +161,7 @@ fn given_source(
         LineOp::Input => Source::FromInput(input as u32),
         LineOp::State => match next {
             None => Source::FromFree(state as u32),
-            Some(a) => Source::FromLast(a),
+            Some(a) => next_source(a),
         },
         _ => Source::ByLine,
     }
@@ -120,6 +181,7 @@ fn line_source(
     requires state_is { state ≡ count_of is_state (take i nodes.now) }
     requires few_inputs { input < 2 ^ 31 }
     requires few_states { state < 2 ^ 31 }
+    requires few_lines { i < 2 ^ 31 }
     ensures { IsSource nodes.now i line.now result }
 {
     if is_given(&line.op) {

@@ -14,6 +14,9 @@ pub line_source-requires-clause-few_states : goal.line_source-requires-clause-fe
 line_source-requires-clause-few_states c =
     omega (arith, count_short is_state (take c.loop-i.i c.args.nodes.now), length-take c.loop-i.i c.args.nodes.now, lines_short c.args.nodes.now c.len-i-end.ensures.well_formed)
 
+pub line_source-requires-clause-few_lines : goal.line_source-requires-clause-few_lines
+line_source-requires-clause-few_lines c = omega (arith, lines_short c.args.nodes.now c.len-i-end.ensures.well_formed)
+
 pub with_input-input-requires : goal.with_input-input-requires
 with_input-input-requires c =
     omega (arith, count_short is_input (take c.loop-i.i c.args.nodes.now), length-take c.loop-i.i c.args.nodes.now, lines_short c.args.nodes.now c.len-i-end.ensures.well_formed)
