@@ -1,5 +1,5 @@
 -- The keys of a set of names.
-use Rattle.std.proofs.Common.{◌≡◌, ◌<◌, ◌≤◌, ◌+◌, drop, take, zero, ◌||◌, ℕ, suc, not, cond, nat_eq, nat_lt, Some, None, is_none, List, [], ◌∷◌, ◌++◌, length, map, refl, sym, ap, ◌∙◌, arith, append_assoc}
+use Rattle.std.proofs.Common.{◌≡◌, ◌<◌, ◌≤◌, ◌+◌, drop, take, zero, ◌||◌, ℕ, suc, not, cond, nat_lt, Some, None, is_none, List, [], ◌∷◌, ◌++◌, length, map, refl, sym, ap, ◌∙◌, arith, append_assoc}
 use Rattle.std.proofs.lemmas.List.{length-map, drop_more, drop_all}
 use Rattle.std.proofs.lemmas.Option.{slice_get_within, get_or_from_slice_get}
 use Rattle.std.specs.List.{position, position_or_len, list_any, slice_get}

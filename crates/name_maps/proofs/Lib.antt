@@ -1,4 +1,5 @@
 pub mod KeyLaws
 mod Places
+pub mod SortedLemmas
 pub mod RowLemmas
 pub mod FreshNames

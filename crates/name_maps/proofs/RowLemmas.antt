@@ -1,9 +1,10 @@
 -- Values of names in rows.
 use Rattle.std.proofs.Common.{◌≡◌, ℕ, zero, suc, ◌<◌, ◌≤◌, ◌-◌, ◌%◌, Bool, true, false, ◌==◌, ◌&&◌, if◌then◌else◌, List, [], ◌∷◌, ◌++◌, take, length, Option, Some, None, slice_get, bytes_eq, refl, sym, ap, ◌∙◌, is_none, Result, Ok, Err, OnOk, arith}
-use Rattle.std.specs.Prelude.{slice_index_or}
+use Rattle.std.specs.Prelude.{slice_index_or, is_some}
+use Rattle.std.specs.Option.{option_or}
 use Rattle.std.proofs.Math.ListN.{set}
 use Rattle.std.proofs.Math.Seq.{take-suc}
-use Rattle.std.proofs.lemmas.Bool.{and_parts, eqb-true}
+use Rattle.std.proofs.lemmas.Bool.{and_parts, eqb-true, true≢false}
 use Rattle.std.proofs.lemmas.Slice.Eq.{bytes_eq-Decides}
 use Rattle.std.proofs.lemmas.Option.{slice_get_read}
 use Rattle.std.proofs.lemmas.List.{length-set}
@@ -134,7 +135,7 @@ last_passed rs k r i x h l e b w =
     sym (ap (λ o. if o then Some r.value else last_named (take (k - 1) rs) i x) b) ∙ sym (last_push (take (k - 1) rs) r i x) ∙ ap (λ ts. last_named ts i x) (sym (taken rs k r h l e)) ∙ w
 
 -- what an equal key has
-same_key : (f : ℕ → List ℕ → Option ℕ) (i j : ℕ) (x y : List ℕ) → (i == j && bytes_eq x y) ≡ true → f j y ≡ f i x
+same_key : {V : Type 0} (f : ℕ → List ℕ → Option V) (i j : ℕ) (x y : List ℕ) → (i == j && bytes_eq x y) ≡ true → f j y ≡ f i x
 same_key f i j x y h =
     let b = and_parts (i == j) (bytes_eq x y) h in
     let e : i ≡ j = eqb-true i j b.0 in
@@ -169,3 +170,28 @@ pub on_put : {X E : Type 0} (r : Result X E) (f g : ℕ → List ℕ → Option 
     → OnOk r ((j : ℕ) (y : List ℕ) → g j y ≡ (if is_none (f j y) && (i == j && bytes_eq x y) then Some c else f j y))
 on_put (Ok u) f g i x c e h = λ j y. is_put f i x c j y (g j y) e (h j y)
 on_put (Err u) f g i x c e h = tt
+
+-- a name that is set in its bucket, where it has no other value
+pub bucket_set : {V : Type 0} (s b new : ℕ → List ℕ → Option V) (i : ℕ) (x : List ℕ) (v : V) → is_some (s i x) ≡ false → ((j : ℕ) (y : List ℕ) → new j y ≡ (if i == j && bytes_eq x y then Some v else b j y))
+    → (j : ℕ) (y : List ℕ) → option_or (s j y) (new j y) ≡ (if i == j && bytes_eq x y then Some v else option_or (s j y) (b j y))
+bucket_set {V} s b new i x v none set j y = ap (option_or (s j y)) (set j y) ∙ by (i == j && bytes_eq x y) refl
+  where
+    absent : (o : Option V) → is_some o ≡ false → o ≡ None
+    absent None e = refl
+    absent (Some w) e = absurd (true≢false e)
+
+    by : (c : Bool) → (i == j && bytes_eq x y) ≡ c → option_or (s j y) (if c then Some v else b j y) ≡ (if c then Some v else option_or (s j y) (b j y))
+    by true h = ap (λ o. option_or o (Some v)) (same_key s i j x y h ∙ absent (s i x) none)
+    by false h = refl
+
+-- a name that is set outside its bucket
+pub other_set : {V X E : Type 0} (r : Result X E) (s more b new : ℕ → List ℕ → Option V) (i : ℕ) (x : List ℕ) (v w : V) → w ≡ v → ((j : ℕ) (y : List ℕ) → new j y ≡ b j y)
+    → OnOk r ((j : ℕ) (y : List ℕ) → more j y ≡ (if i == j && bytes_eq x y then Some w else s j y))
+    → OnOk r ((j : ℕ) (y : List ℕ) → option_or (more j y) (new j y) ≡ (if i == j && bytes_eq x y then Some v else option_or (s j y) (b j y)))
+other_set {V} (Ok u) s more b new i x v w e same set = λ j y.
+    ap (λ o. option_or (more j y) o) (same j y) ∙ ap (λ o. option_or o (b j y)) (set j y) ∙ by (i == j && bytes_eq x y) (s j y) (b j y)
+  where
+    by : (c : Bool) (o p : Option V) → option_or (if c then Some w else o) p ≡ (if c then Some v else option_or o p)
+    by true o p = ap Some e
+    by false o p = refl
+other_set (Err u) s more b new i x v w e same set = tt

@@ -1,9 +1,11 @@
 -- Values of names in rows.
-use Rattle.std.specs.Prelude.{ℕ, ◌+◌, ◌*◌, ◌%◌, Bool, ◌&&◌, ◌==◌, if◌then◌else◌, List, [], ◌∷◌, length, Option, Some, None, slice_get, bytes_eq}
+use Rattle.std.specs.Prelude.{◌≡◌, ℕ, ◌+◌, ◌*◌, ◌%◌, Bool, ◌&&◌, ◌==◌, if◌then◌else◌, List, [], ◌∷◌, length, Option, Some, None, slice_get, bytes_eq}
+use Rattle.std.specs.Option.{option_or}
 use Rattle.name_maps.specs.declared.buckets.NamedValue.{NamedValue}
 use Rattle.name_maps.specs.declared.buckets.Bucket.{Bucket}
 use Rattle.name_maps.specs.declared.rows.NameRows.{NameRows}
 use Rattle.name_maps.specs.declared.instance_rows.InstanceRows.{InstanceRows}
+use Rattle.name_maps.specs.Sorted.{sorted_named}
 
 -- a number made of the bytes of a name, from this one on
 abbrev pub number_on : ℕ → List ℕ → ℕ
@@ -40,9 +42,14 @@ bucket_named (Some b) i x = held_named b i x
 abbrev pub buckets_named : {V : Type 0} → List (Bucket V) → ℕ → List ℕ → Option V
 buckets_named bs i x = bucket_named (slice_get bs (number_on (i % 4294967296) x % length bs)) i x
 
--- the value of a name in the numbered instance
+-- the buckets with this value for the name, or as they were where the value is left over
+abbrev pub TakesRow : {V : Type 0} → Option V → ℕ → List ℕ → V → List (Bucket V) → List (Bucket V) → Type 0
+TakesRow None n name v old new = (i : ℕ) (x : List ℕ) → buckets_named new i x ≡ (if n == i && bytes_eq name x then Some v else buckets_named old i x)
+TakesRow (Some left) n name v old new = (left ≡ v) × (new ≡ old)
+
+-- the value of a name in the numbered instance: the one outside the buckets was set later
 unfoldable pub row_in : {V : Type 0} → InstanceRows V → ℕ → List ℕ → Option V
-row_in m i x = buckets_named m.buckets i x
+row_in m i x = option_or (sorted_named m.others i x) (buckets_named m.buckets i x)
 
 -- the value of a name
 abbrev pub row_named : {V : Type 0} → NameRows V → List ℕ → Option V

@@ -1,6 +1,6 @@
 // Values of names in instances, found by a hash of an instance's number and a name's bytes.
 ghost use Rattle.std.specs.Prelude.{◌≡◌, ◌<◌, ◌+◌, ◌*◌, ◌%◌, ◌&&◌, ◌==◌, [], List, ℕ, Some, None, length, OnOk, IfOk, bytes_eq, if◌then◌else◌};
-ghost use Rattle.name_maps.specs.Rows.{number_on, is_row_of, last_named, rows_of, held_named, buckets_named};
+ghost use Rattle.name_maps.specs.Rows.{number_on, is_row_of, last_named, rows_of, held_named, buckets_named, TakesRow};
 
 use std::alloc::Global;
 use std::marker::Model;
@@ -13,6 +13,10 @@ pub struct NamedValue<'a, V> {
     pub name: &'a [u8],
     pub value: V,
 }
+
+// The most rows behind the first two of a bucket. Names can be chosen to have one hash, so a bucket has no room for all
+// of them.
+const MOST_BEHIND: usize = 8;
 
 /// Entries with one hash, in the order in which they were added.
 ///
@@ -144,25 +148,28 @@ fn add_to<'a, V: Drop>(bucket: &mut Bucket<'a, V>, row: NamedValue<'a, V>) -> Re
     Ok(())
 }
 
-/// Sets the value of this name in instance `i`.
+/// Sets the value of this name in instance `i`, if its bucket has room for one more entry.
 ///
-/// It replaces any earlier value.
+/// It replaces any earlier value. Returns the value where the bucket is full.
 pub fn add_to_buckets<'a, V: Drop>(
     buckets: &mut Buckets<'a, V>,
     i: usize,
     name: &'a [u8],
     value: V,
-) -> Result<(), NoMemory>
-    ensures { OnOk result ((j : ℕ) (y : List ℕ) → buckets_named buckets.new j y ≡ (if i == j && bytes_eq name.now y then Some value else buckets_named buckets.old j y)) }
+) -> Result<Option<V>, NoMemory>
+    ensures { IfOk result (λ left. TakesRow left i name.now value buckets.old buckets.new) }
 {
     let k = bucket_of(i, name, buckets.list.len());
+    if buckets.list[k].rest.len() >= MOST_BEHIND {
+        return Ok(Some(value));
+    }
     let row = NamedValue {
         instance: i,
         name,
         value,
     };
     add_to(&mut buckets.list[k], row)?;
-    Ok(())
+    Ok(None)
 }
 
 /// Returns the value of this name in instance `i`, or None.

@@ -8,6 +8,7 @@ mod key;
 mod name_map;
 mod rows;
 mod set;
+mod sorted_named;
 mod successors;
 mod table;
 

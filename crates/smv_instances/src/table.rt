@@ -4,7 +4,7 @@ ghost use Rattle.smv_text.specs.View.{plain_source};
 ghost use Rattle.smv_meaning.specs.Instances.{Instance as Specified, instances_of};
 ghost use Rattle.smv_meaning.specs.Bodies.{instance_within};
 ghost use Rattle.smv_meaning.specs.Names.{steps_of, local, is_child, has_symbol, found_in, look, single};
-ghost use Rattle.smv_instances.specs.Leads.{until, are_one_name};
+ghost use Rattle.smv_instances.specs.Leads.{until, are_one_name, is_alias};
 ghost use Rattle.smv_instances.specs.View.{instance_plain, local_plain, found_plain};
 
 use crate::aliases::leads_of;
@@ -12,6 +12,7 @@ use crate::instances::{Instance, instances};
 use crate::leads::{Lead, Leads, Walk, lead_of, path_walk};
 use crate::names::{Known, Target};
 use crate::parts::Parts;
+use name_maps::row_value_in;
 use smv_text::{Path, Source};
 use std::alloc::Global;
 use std::marker::Model;
@@ -200,15 +201,26 @@ impl<'a> Table<'a> {
         }
     }
 
+    // The target of a name that is an alias. The name need not live as long as the model.
+    fn alias_target(&self, i: usize, x: &[u8]) -> Target<'a>
+        requires alias { is_alias (local (map instance_plain self.now) i x.now) ≡ true }
+        ensures { found_plain (map instance_plain self.now) result ≡ look (map instance_plain self.now) (steps_of (map instance_plain self.now)) i x.now }
+    {
+        match row_value_in(&self.leads, i, x) {
+            Some(lead) => reached(&self.parts, lead),
+            None => Target::Cyclic,
+        }
+    }
+
     /// Returns the instance to which a name leads, or None where it leads to no instance.
     ///
     /// `known` is the meaning of the name in its own instance.
-    pub fn instance_of_name(&self, i: usize, x: &'a [u8], known: Known<'a>) -> Option<usize>
+    pub fn instance_of_name(&self, i: usize, x: &[u8], known: Known<'a>) -> Option<usize>
         requires known { local_plain known ≡ local (map instance_plain self.now) i x.now }
         ensures { result ≡ instance_within (look (map instance_plain self.now) (steps_of (map instance_plain self.now)) i x.now) }
     {
         match known {
-            Known::Alias(_, _) => instance_in(self.target_of_alias(i, x, known)),
+            Known::Alias(_, _) => instance_in(self.alias_target(i, x)),
             Known::Body(_, _) => None,
             Known::Variable(_, _) => None,
             Known::Instance => self.child(i, x),
