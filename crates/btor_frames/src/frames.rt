@@ -10,7 +10,6 @@ ghost use Rattle.btor_frames.specs.Sources.{HoldsNothing};
 use crate::fill::operand;
 use crate::handed::word_of;
 use crate::next::fill;
-use crate::nodes::well_formed_lines;
 use crate::tables::Tables;
 use crate::words::Words;
 use btor_tree::{Arg, Nodes};
@@ -74,7 +73,7 @@ impl Frames {
         ensures only { (row : List BitVector) → IsStep nodes.now self.old.begun self.old.row inputs.now free.now row
             → row ≡ self.new.row }
     {
-        well_formed_lines(nodes);
+        nodes.are_well_formed();
         fill(
             nodes,
             &self.tables,
@@ -96,7 +95,7 @@ impl Frames {
         requires begun { self.now.begun ≡ true }
         ensures { IsTrue result ↔ ConstraintsHold nodes.now self.now.row }
     {
-        well_formed_lines(nodes);
+        nodes.are_well_formed();
         let constraints = self.tables.constraints();
         for i in 0..constraints.len() {
             if !is_true(&self.row, constraints.at(i)) {
@@ -115,7 +114,7 @@ impl Frames {
         requires there { j < count_of is_bad nodes.now }
         ensures { IsTrue result ↔ IsBad nodes.now self.now.row j }
     {
-        well_formed_lines(nodes);
+        nodes.are_well_formed();
         is_true(&self.row, self.tables.bads().at(j as usize))
     }
 

@@ -5,7 +5,6 @@ mod fill;
 mod frames;
 mod handed;
 mod next;
-mod nodes;
 mod sources;
 mod tables;
 mod words;

@@ -14,7 +14,6 @@ ghost use Rattle.btor_frames.specs.Steps.{supplied_at, value_kind, value_word, S
 ghost use Rattle.btor_frames.specs.Tables.{IsFoundIn};
 
 use crate::fill::{and_word, eq_word, fill_first, or_word, put_computed};
-use crate::nodes::well_formed_lines;
 use crate::sources::Source;
 use crate::tables::Tables;
 use crate::words::Words;
@@ -170,7 +169,7 @@ pub fn fill(
         (value_word begun nodes.now last.now) (supplied_at nodes.now inputs.now free.now)) (length nodes.now) }
     ensures blank { IsBlank tables.now.sources spare.new }
 {
-    well_formed_lines(nodes);
+    nodes.are_well_formed();
     if begun {
         fill_next(nodes, tables, last, inputs, free, spare);
     } else {

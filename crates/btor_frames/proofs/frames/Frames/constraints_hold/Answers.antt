@@ -7,7 +7,7 @@ pub is_true-requires : goal.is_true-requires
 is_true-requires c =
     let e = c.constraints-constraints.ensures ∙ ap (λ h. h.found.constraints) c.self.view_is ∙ c.requires.fits.found.constraints in
     let there : c.loop-i.i < length c.constraints-constraints.result.now = omega (arith, c.loop-i-test.true, c.len-i-end.ensures) in
-    let h = operand_inside is_constraint c.args.nodes.now c.constraints-constraints.result.now c.loop-i.i c.at.result.now c.well_formed_lines.ensures e there c.at.ensures in
+    let h = operand_inside is_constraint c.args.nodes.now c.constraints-constraints.result.now c.loop-i.i c.at.result.now c.are_well_formed.ensures e there c.at.ensures in
     omega (arith, h, ap (λ h. length h.row) c.self.view_is, c.requires.fits.sized)
 
 pub returns : goal.returns
