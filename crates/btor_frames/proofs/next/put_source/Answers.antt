@@ -1,4 +1,4 @@
-use Rattle.std.proofs.Common.{ap, ◌∙◌}
+use Rattle.std.proofs.Common.{ap, arith, ◌∙◌}
 use Rattle.std.specs.Prelude.{slice_set}
 use Rattle.word_core.specs.declared.kinds.Binary.TheVariants.{And, Or, Eq}
 use Rattle.btor_frames.specs.declared.sources.Source.TheVariants.{FromInput, FromFree, FromLast, FromLastNot, NotOf, AndOf, OrOf, EqOf, IteOf}
@@ -19,7 +19,7 @@ word_at-requires-in-FromFree c =
 pub word_at-requires-in-FromLast : goal.word_at-requires-in-FromLast
 word_at-requires-in-FromLast c =
     let here = source_here c.args.nodes.now c.args.i c.args.source (FromLast c.in-FromLast.n) c.requires.inside c.requires.source c.in-FromLast.is in
-    last_inside c.args.nodes.now c.args.last.now c.args.i c.in-FromLast.n here.0 c.requires.well_formed c.requires.last_frame c.requires.inside here.2
+    omega (arith, c.requires.long, c.requires.last_frame.sized, last_inside c.args.nodes.now c.args.last.now c.args.i c.in-FromLast.n here.0 c.requires.well_formed c.requires.last_frame c.requires.inside here.2)
 
 pub returns-in-FromLast : goal.returns-in-FromLast
 returns-in-FromLast c =
