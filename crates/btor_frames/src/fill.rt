@@ -10,7 +10,9 @@ ghost use Rattle.btor_tree.proofs.Paths.{constant_at, pick, given_of};
 ghost use Rattle.btor_frames.specs.Tables.{IsFoundIn};
 ghost use Rattle.btor_frames.specs.Steps.{supplied_at, SuppliedFit};
 
-use crate::handed::{is_given, supplied_word, with_input, with_state, word_of, word_or};
+use crate::handed::{
+    Seen, Supplied, is_given, supplied_word, with_input, with_state, word_of, word_or,
+};
 use crate::tables::Tables;
 use crate::words::Words;
 use btor_tree::{Arg, Args, Line, LineOp, Nodes};
@@ -85,21 +87,19 @@ fn state_word(
     tables: &Tables,
     i: usize,
     spare: &Words,
-    inputs: &Words,
-    free: &Words,
-    input: usize,
-    state: usize,
+    supplied: &Supplied<'_>,
+    seen: Seen,
 ) -> Word
     requires inside { i < length nodes.now }
     requires long { length spare.now ≡ length nodes.now }
     requires well_formed { IsWellFormed nodes.now }
     requires found { IsFoundIn nodes.now tables.now }
-    requires input_is { input ≡ count_of is_input (take i nodes.now) }
-    requires state_is { state ≡ count_of is_state (take i nodes.now) }
-    ensures { result ≡ read_or (state_value is_init nodes.now i) (init_operand nodes.now (take i spare.now)) (supplied_at nodes.now inputs.now free.now i) }
+    requires input_is { seen.input ≡ count_of is_input (take i nodes.now) }
+    requires state_is { seen.state ≡ count_of is_state (take i nodes.now) }
+    ensures { result ≡ read_or (state_value is_init nodes.now i) (init_operand nodes.now (take i spare.now)) (supplied_at nodes.now supplied.now.inputs.now supplied.now.free.now i) }
 {
     match tables.init(i) {
-        None => supplied_word(nodes, i, inputs, free, input, state),
+        None => supplied_word(nodes, i, supplied, seen),
         Some(a) => init_operand(nodes, spare, &a),
     }
 }
@@ -111,24 +111,22 @@ fn given_word(
     tables: &Tables,
     i: usize,
     spare: &Words,
-    inputs: &Words,
-    free: &Words,
-    input: usize,
-    state: usize,
+    supplied: &Supplied<'_>,
+    seen: Seen,
 ) -> Word
     requires inside { i < length nodes.now }
     requires long { length spare.now ≡ length nodes.now }
     requires well_formed { IsWellFormed nodes.now }
     requires found { IsFoundIn nodes.now tables.now }
-    requires input_is { input ≡ count_of is_input (take i nodes.now) }
-    requires state_is { state ≡ count_of is_state (take i nodes.now) }
+    requires input_is { seen.input ≡ count_of is_input (take i nodes.now) }
+    requires state_is { seen.state ≡ count_of is_state (take i nodes.now) }
     ensures { IfSome (slice_get nodes.now i) (λ l. result ≡ pick l.op (state_value is_init nodes.now i)
-        (init_operand nodes.now (take i spare.now)) (supplied_at nodes.now inputs.now free.now i)) }
+        (init_operand nodes.now (take i spare.now)) (supplied_at nodes.now supplied.now.inputs.now supplied.now.free.now i)) }
 {
     match nodes.at(i).op {
-        LineOp::State => state_word(nodes, tables, i, spare, inputs, free, input, state),
-        LineOp::Input => word_or(inputs, input),
-        _ => supplied_word(nodes, i, inputs, free, input, state),
+        LineOp::State => state_word(nodes, tables, i, spare, supplied, seen),
+        LineOp::Input => word_or(supplied.inputs, seen.input),
+        _ => supplied_word(nodes, i, supplied, seen),
     }
 }
 
@@ -287,53 +285,48 @@ fn put_word(
     tables: &Tables,
     i: usize,
     line: &Line,
-    inputs: &Words,
-    free: &Words,
-    input: usize,
-    state: usize,
+    supplied: &Supplied<'_>,
+    seen: Seen,
     spare: &mut Words,
-) -> (usize, usize)
+) -> Seen
     requires inside { i < length nodes.now }
     requires long { length spare.old ≡ length nodes.now }
     requires well_formed { IsWellFormed nodes.now }
     requires found { IsFoundIn nodes.now tables.now }
-    requires input_is { input ≡ count_of is_input (take i nodes.now) }
-    requires state_is { state ≡ count_of is_state (take i nodes.now) }
+    requires input_is { seen.input ≡ count_of is_input (take i nodes.now) }
+    requires state_is { seen.state ≡ count_of is_state (take i nodes.now) }
     requires line_is { slice_get nodes.now i ≡ Some line.now }
-    requires few_inputs { input < 2 ^ 63 }
-    requires few_states { state < 2 ^ 63 }
+    requires few_inputs { seen.input < 2 ^ 63 }
+    requires few_states { seen.state < 2 ^ 63 }
     requires frame { IsFrame (take i nodes.now) (take i spare.old) }
     ensures word { IfSome (slice_get nodes.now i) (λ l. spare.new ≡ slice_set spare.old i (computed (take i nodes.now) (take i spare.old) l.sort l.op l.args
-        (given_of (state_value is_init nodes.now) (init_operand nodes.now) (supplied_at nodes.now inputs.now free.now) l.op i (take i spare.old)))) }
-    ensures next_input { result.0 ≡ input + (if is_input line.now.op then 1 else 0) }
-    ensures next_state { result.1 ≡ state + (if is_state line.now.op then 1 else 0) }
+        (given_of (state_value is_init nodes.now) (init_operand nodes.now) (supplied_at nodes.now supplied.now.inputs.now supplied.now.free.now) l.op i (take i spare.old)))) }
+    ensures next_input { result.input ≡ seen.input + (if is_input line.now.op then 1 else 0) }
+    ensures next_state { result.state ≡ seen.state + (if is_state line.now.op then 1 else 0) }
 {
     if is_given(&line.op) {
-        let word = given_word(nodes, tables, i, spare, inputs, free, input, state);
+        let word = given_word(nodes, tables, i, spare, supplied, seen);
         spare.set(i, word);
-        (with_input(line, input), with_state(line, state))
+        Seen {
+            input: with_input(line, seen.input),
+            state: with_state(line, seen.state),
+        }
     } else {
         put_computed(nodes, i, spare);
-        (input, state)
+        seen
     }
 }
 
 /// Fills a row of words: frame 0.
-pub fn fill_first(nodes: &Nodes, tables: &Tables, inputs: &Words, free: &Words, spare: &mut Words)
+pub fn fill_first(nodes: &Nodes, tables: &Tables, supplied: &Supplied<'_>, spare: &mut Words)
     requires long { length spare.old ≡ length nodes.now }
     requires found { IsFoundIn nodes.now tables.now }
-    requires handed { SuppliedFit nodes.now inputs.now free.now }
+    requires handed { SuppliedFit nodes.now supplied.now.inputs.now supplied.now.free.now }
     ensures { spare.new ≡ row_upto nodes.now (given_of (state_value is_init nodes.now)
-        (init_operand nodes.now) (supplied_at nodes.now inputs.now free.now)) (length nodes.now) }
+        (init_operand nodes.now) (supplied_at nodes.now supplied.now.inputs.now supplied.now.free.now)) (length nodes.now) }
 {
-    let mut input = 0usize;
-    let mut state = 0usize;
+    let mut seen = Seen { input: 0, state: 0 };
     for i in 0..nodes.len() {
-        let line = nodes.at(i);
-        let (next_input, next_state) = put_word(
-            nodes, tables, i, line, inputs, free, input, state, spare,
-        );
-        input = next_input;
-        state = next_state;
+        seen = put_word(nodes, tables, i, nodes.at(i), supplied, seen, spare);
     }
 }

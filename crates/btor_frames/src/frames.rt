@@ -8,7 +8,7 @@ ghost use Rattle.btor_frames.specs.Held.{Held, FramesFit};
 ghost use Rattle.btor_frames.specs.Sources.{HoldsNothing};
 
 use crate::fill::operand;
-use crate::handed::word_of;
+use crate::handed::{Supplied, word_of};
 use crate::next::fill;
 use crate::tables::Tables;
 use crate::words::Words;
@@ -79,8 +79,7 @@ impl Frames {
             &self.tables,
             self.begun,
             &self.row,
-            inputs,
-            free,
+            &Supplied { inputs, free },
             &mut self.spare,
         );
         mem::swap(&mut self.row, &mut self.spare);

@@ -9,6 +9,20 @@ use crate::words::Words;
 use btor_tree::{Line, LineOp, Nodes};
 use word_core::Word;
 
+/// The words that the caller gives for a frame: one for each input line and one for each state line, in order.
+#[derive(Clone, Copy)]
+pub struct Supplied<'a> {
+    pub inputs: &'a Words,
+    pub free: &'a Words,
+}
+
+/// How many inputs and how many states come before a line.
+#[derive(Clone, Copy)]
+pub struct Seen {
+    pub input: usize,
+    pub state: usize,
+}
+
 // The word of a width and bits that fit.
 pub fn word_of(width: u32, bits: u128) -> Word
     requires { IsWord (record { width = width; bits = bits }) }
@@ -36,24 +50,17 @@ pub fn is_given(op: &LineOp) -> bool
     matches!(op, LineOp::Input | LineOp::State)
 }
 
-// The word that the caller gives for a line after `input` inputs and `state` states.
+// The word that the caller gives for a line.
 #[inline(always)]
-pub fn supplied_word(
-    nodes: &Nodes,
-    i: usize,
-    inputs: &Words,
-    free: &Words,
-    input: usize,
-    state: usize,
-) -> Word
+pub fn supplied_word(nodes: &Nodes, i: usize, supplied: &Supplied<'_>, seen: Seen) -> Word
     requires inside { i < length nodes.now }
-    requires input_is { input ≡ count_of is_input (take i nodes.now) }
-    requires state_is { state ≡ count_of is_state (take i nodes.now) }
-    ensures { result ≡ supplied_at nodes.now inputs.now free.now i }
+    requires input_is { seen.input ≡ count_of is_input (take i nodes.now) }
+    requires state_is { seen.state ≡ count_of is_state (take i nodes.now) }
+    ensures { result ≡ supplied_at nodes.now supplied.now.inputs.now supplied.now.free.now i }
 {
     match nodes.at(i).op {
-        LineOp::Input => word_or(inputs, input),
-        LineOp::State => word_or(free, state),
+        LineOp::Input => word_or(supplied.inputs, seen.input),
+        LineOp::State => word_or(supplied.free, seen.state),
         _ => word_of(1, 0),
     }
 }
@@ -98,10 +105,11 @@ fn line_fits(nodes: &Nodes, i: usize, word: Word) -> bool
 pub fn words_fit(nodes: &Nodes, inputs: &Words, free: &Words) -> bool
     ensures { IsTrue result ↔ SuppliedFit nodes.now inputs.now free.now }
 {
+    let supplied = Supplied { inputs, free };
     let mut input = 0usize;
     let mut state = 0usize;
     for i in 0..nodes.len() {
-        let handed = supplied_word(nodes, i, inputs, free, input, state);
+        let handed = supplied_word(nodes, i, &supplied, Seen { input, state });
         if !line_fits(nodes, i, handed) {
             return false;
         }

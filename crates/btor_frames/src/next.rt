@@ -14,6 +14,7 @@ ghost use Rattle.btor_frames.specs.Steps.{supplied_at, value_kind, value_word, S
 ghost use Rattle.btor_frames.specs.Tables.{IsFoundIn};
 
 use crate::fill::{and_word, eq_word, fill_first, or_word, put_computed};
+use crate::handed::Supplied;
 use crate::sources::Source;
 use crate::tables::Tables;
 use crate::words::Words;
@@ -94,25 +95,24 @@ fn put_source(
     source: Source,
     i: usize,
     last: &Words,
-    inputs: &Words,
-    free: &Words,
+    supplied: &Supplied<'_>,
     spare: &mut Words,
 )
     requires inside { i < length nodes.now }
     requires long { length spare.old ≡ length nodes.now }
     requires last_frame { IsFrame nodes.now last.now }
-    requires handed { SuppliedFit nodes.now inputs.now free.now }
+    requires handed { SuppliedFit nodes.now supplied.now.inputs.now supplied.now.free.now }
     requires well_formed { IsWellFormed nodes.now }
     requires source { IfSome (slice_get nodes.now i) (λ l. IsSource nodes.now i l source) }
     requires blank { source ≡ NoWord → word_at spare.old i ≡ nothing }
     requires frame { IsFrame (take i nodes.now) (take i spare.old) }
     ensures { IfSome (slice_get nodes.now i) (λ l. spare.new ≡ slice_set spare.old i (computed (take i nodes.now) (take i spare.old) l.sort l.op l.args
-        (given_of (state_value (value_kind true) nodes.now) (value_word true nodes.now last.now) (supplied_at nodes.now inputs.now free.now) l.op i (take i spare.old)))) }
+        (given_of (state_value (value_kind true) nodes.now) (value_word true nodes.now last.now) (supplied_at nodes.now supplied.now.inputs.now supplied.now.free.now) l.op i (take i spare.old)))) }
 {
     match source {
         Source::NoWord => {}
-        Source::FromInput(n) => spare.set(i, word_at(inputs, n)),
-        Source::FromFree(n) => spare.set(i, word_at(free, n)),
+        Source::FromInput(n) => spare.set(i, word_at(supplied.inputs, n)),
+        Source::FromFree(n) => spare.set(i, word_at(supplied.free, n)),
         Source::FromLast(n) => spare.set(i, word_at(last, n)),
         Source::FromLastNot(n) => spare.set(i, not_word_at(last, n)),
         Source::NotOf(a) => spare.set(i, not_word_at(spare, a)),
@@ -129,21 +129,20 @@ fn fill_next(
     nodes: &Nodes,
     tables: &Tables,
     last: &Words,
-    inputs: &Words,
-    free: &Words,
+    supplied: &Supplied<'_>,
     spare: &mut Words,
 )
     requires long { length spare.old ≡ length nodes.now }
     requires last_long { length last.now ≡ length nodes.now }
     requires last_frame { IsFrame nodes.now last.now }
     requires found { IsFoundIn nodes.now tables.now }
-    requires handed { SuppliedFit nodes.now inputs.now free.now }
+    requires handed { SuppliedFit nodes.now supplied.now.inputs.now supplied.now.free.now }
     requires blank { IsBlank tables.now.sources spare.old }
     ensures { spare.new ≡ row_upto nodes.now (given_of (state_value (value_kind true) nodes.now)
-        (value_word true nodes.now last.now) (supplied_at nodes.now inputs.now free.now)) (length nodes.now) }
+        (value_word true nodes.now last.now) (supplied_at nodes.now supplied.now.inputs.now supplied.now.free.now)) (length nodes.now) }
 {
     for i in 0..nodes.len() {
-        put_source(nodes, tables.source(i), i, last, inputs, free, spare);
+        put_source(nodes, tables.source(i), i, last, supplied, spare);
     }
 }
 
@@ -155,24 +154,23 @@ pub fn fill(
     tables: &Tables,
     begun: bool,
     last: &Words,
-    inputs: &Words,
-    free: &Words,
+    supplied: &Supplied<'_>,
     spare: &mut Words,
 )
     requires long { length spare.old ≡ length nodes.now }
     requires last_long { length last.now ≡ length nodes.now }
     requires last_frame { IsTrue begun → IsFrame nodes.now last.now }
     requires found { IsFoundIn nodes.now tables.now }
-    requires handed { SuppliedFit nodes.now inputs.now free.now }
+    requires handed { SuppliedFit nodes.now supplied.now.inputs.now supplied.now.free.now }
     requires blank { IsBlank tables.now.sources spare.old }
     ensures row { spare.new ≡ row_upto nodes.now (given_of (state_value (value_kind begun) nodes.now)
-        (value_word begun nodes.now last.now) (supplied_at nodes.now inputs.now free.now)) (length nodes.now) }
+        (value_word begun nodes.now last.now) (supplied_at nodes.now supplied.now.inputs.now supplied.now.free.now)) (length nodes.now) }
     ensures blank { IsBlank tables.now.sources spare.new }
 {
     nodes.are_well_formed();
     if begun {
-        fill_next(nodes, tables, last, inputs, free, spare);
+        fill_next(nodes, tables, last, supplied, spare);
     } else {
-        fill_first(nodes, tables, inputs, free, spare);
+        fill_first(nodes, tables, supplied, spare);
     }
 }

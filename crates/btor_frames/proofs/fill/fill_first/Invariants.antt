@@ -7,7 +7,7 @@ use Rattle.btor_frames.proofs.fill.fill_first.Given as goal
 abbrev pub invariant-loop-i : goal.invariant-loop-i
 invariant-loop-i l = record {
   long : length l.spare ≡ length l.nodes;
-  filled : take l.i l.spare ≡ row_upto l.nodes (giving false l.nodes [] l.inputs l.free) l.i;
-  input_is : l.input ≡ count_of is_input (take l.i l.nodes);
-  state_is : l.state ≡ count_of is_state (take l.i l.nodes);
+  filled : take l.i l.spare ≡ row_upto l.nodes (giving false l.nodes [] l.supplied.inputs.now l.supplied.free.now) l.i;
+  input_is : l.seen.input ≡ count_of is_input (take l.i l.nodes);
+  state_is : l.seen.state ≡ count_of is_state (take l.i l.nodes);
 }

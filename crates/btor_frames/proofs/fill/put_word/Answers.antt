@@ -4,11 +4,11 @@ use Rattle.btor_frames.proofs.fill.put_word.Goals as goal
 
 pub returns-then-is_given-clause-word : goal.returns-then-is_given-clause-word
 returns-then-is_given-clause-word c =
-    taken_here c.args.nodes.now c.args.spare.now c.set.new.self c.args.i (giving false c.args.nodes.now [] c.args.inputs.now c.args.free.now) c.args.line.now c.given_word-word.result c.requires.line_is (sym c.is_given.ensures ∙ c.if-is_given.true) c.given_word-word.ensures c.set.ensures
+    taken_here c.args.nodes.now c.args.spare.now c.set.new.self c.args.i (giving false c.args.nodes.now [] c.args.supplied.now.inputs.now c.args.supplied.now.free.now) c.args.line.now c.given_word-word.result c.requires.line_is (sym c.is_given.ensures ∙ c.if-is_given.true) c.given_word-word.ensures c.set.ensures
 
 pub returns-else-is_given-clause-word : goal.returns-else-is_given-clause-word
 returns-else-is_given-clause-word c =
-    made_here c.args.nodes.now c.args.spare.now c.put_computed.new.spare c.args.i (giving false c.args.nodes.now [] c.args.inputs.now c.args.free.now) c.args.line.now c.requires.line_is (sym c.is_given.ensures ∙ c.if-is_given.false) c.put_computed.ensures
+    made_here c.args.nodes.now c.args.spare.now c.put_computed.new.spare c.args.i (giving false c.args.nodes.now [] c.args.supplied.now.inputs.now c.args.supplied.now.free.now) c.args.line.now c.requires.line_is (sym c.is_given.ensures ∙ c.if-is_given.false) c.put_computed.ensures
 
 pub returns-else-is_given-clause-next_input : goal.returns-else-is_given-clause-next_input
 returns-else-is_given-clause-next_input c =

@@ -12,4 +12,4 @@ pub returns-in-Some : goal.returns-in-Some
 returns-in-Some c =
     let e = sym (c.in-Some.ensures ∙ c.requires.found.inits.at c.args.i c.requires.inside) in
     c.init_operand.ensures
-    ∙ reads_state false c.args.nodes.now [] c.args.spare.now c.args.i c.in-Some.a (supplied_at c.args.nodes.now c.args.inputs.now c.args.free.now c.args.i) c.requires.well_formed e
+    ∙ reads_state false c.args.nodes.now [] c.args.spare.now c.args.i c.in-Some.a (supplied_at c.args.nodes.now c.args.supplied.now.inputs.now c.args.supplied.now.free.now c.args.i) c.requires.well_formed e

@@ -1,4 +1,4 @@
-use Rattle.std.proofs.Common.{ap, ◌∙◌}
+use Rattle.std.proofs.Common.{ap, arith, ◌∙◌}
 use Rattle.std.specs.Prelude.{slice_set}
 use Rattle.word_core.specs.declared.kinds.Binary.TheVariants.{And, Or, Eq}
 use Rattle.btor_frames.specs.declared.sources.Source.TheVariants.{FromInput, FromFree, FromLast, FromLastNot, NotOf, AndOf, OrOf, EqOf, IteOf}
@@ -9,22 +9,22 @@ use Rattle.btor_frames.proofs.next.put_source.Goals as goal
 pub word_at-requires : goal.word_at-requires
 word_at-requires c =
     let here = source_here c.args.nodes.now c.args.i c.args.source (FromInput c.in-FromInput.n) c.requires.inside c.requires.source c.in-FromInput.is in
-    input_inside c.args.nodes.now c.args.inputs.now c.args.free.now c.args.i c.in-FromInput.n here.0 c.requires.handed here.1 here.2
+    input_inside c.args.nodes.now c.args.supplied.now.inputs.now c.args.supplied.now.free.now c.args.i c.in-FromInput.n here.0 c.requires.handed here.1 here.2
 
 pub word_at-requires-in-FromFree : goal.word_at-requires-in-FromFree
 word_at-requires-in-FromFree c =
     let here = source_here c.args.nodes.now c.args.i c.args.source (FromFree c.in-FromFree.n) c.requires.inside c.requires.source c.in-FromFree.is in
-    free_inside c.args.nodes.now c.args.inputs.now c.args.free.now c.args.i c.in-FromFree.n here.0 c.requires.handed here.1 here.2.0 here.2.2
+    free_inside c.args.nodes.now c.args.supplied.now.inputs.now c.args.supplied.now.free.now c.args.i c.in-FromFree.n here.0 c.requires.handed here.1 here.2.0 here.2.2
 
 pub word_at-requires-in-FromLast : goal.word_at-requires-in-FromLast
 word_at-requires-in-FromLast c =
     let here = source_here c.args.nodes.now c.args.i c.args.source (FromLast c.in-FromLast.n) c.requires.inside c.requires.source c.in-FromLast.is in
-    last_inside c.args.nodes.now c.args.last.now c.args.i c.in-FromLast.n here.0 c.requires.well_formed c.requires.last_frame c.requires.inside here.2
+    omega (arith, c.requires.long, c.requires.last_frame.sized, last_inside c.args.nodes.now c.args.last.now c.args.i c.in-FromLast.n here.0 c.requires.well_formed c.requires.last_frame c.requires.inside here.2)
 
 pub returns-in-FromLast : goal.returns-in-FromLast
 returns-in-FromLast c =
     let here = source_here c.args.nodes.now c.args.i c.args.source (FromLast c.in-FromLast.n) c.requires.inside c.requires.source c.in-FromLast.is in
-    puts_last c.args.nodes.now c.args.last.now c.args.inputs.now c.args.free.now c.args.spare.now c.args.i here.0 c.set-in-FromLast.new.self c.requires.well_formed c.requires.inside c.requires.long here.1 c.in-FromLast.n c.requires.last_frame here.2 (c.set-in-FromLast.ensures ∙ ap (slice_set c.args.spare.now c.args.i) c.word_at-in-FromLast.ensures)
+    puts_last c.args.nodes.now c.args.last.now c.args.supplied.now.inputs.now c.args.supplied.now.free.now c.args.spare.now c.args.i here.0 c.set-in-FromLast.new.self c.requires.well_formed c.requires.inside c.requires.long here.1 c.in-FromLast.n c.requires.last_frame here.2 (c.set-in-FromLast.ensures ∙ ap (slice_set c.args.spare.now c.args.i) c.word_at-in-FromLast.ensures)
 
 pub not_word_at-requires : goal.not_word_at-requires
 not_word_at-requires c =
@@ -39,7 +39,7 @@ not_word_at-requires-in-NotOf c =
 pub returns-in-NotOf : goal.returns-in-NotOf
 returns-in-NotOf c =
     let here = source_here c.args.nodes.now c.args.i c.args.source (NotOf c.in-NotOf.a) c.requires.inside c.requires.source c.in-NotOf.is in
-    puts_not c.args.nodes.now c.args.last.now c.args.inputs.now c.args.free.now c.args.spare.now c.args.i here.0 c.set-in-NotOf.new.self c.requires.well_formed c.requires.inside c.requires.long here.1 c.in-NotOf.a here.2 (c.set-in-NotOf.ensures ∙ ap (slice_set c.args.spare.now c.args.i) c.not_word_at-in-NotOf.ensures)
+    puts_not c.args.nodes.now c.args.last.now c.args.supplied.now.inputs.now c.args.supplied.now.free.now c.args.spare.now c.args.i here.0 c.set-in-NotOf.new.self c.requires.well_formed c.requires.inside c.requires.long here.1 c.in-NotOf.a here.2 (c.set-in-NotOf.ensures ∙ ap (slice_set c.args.spare.now c.args.i) c.not_word_at-in-NotOf.ensures)
 
 pub put_ite-requires-clause-condition : goal.put_ite-requires-clause-condition
 put_ite-requires-clause-condition c =
@@ -69,7 +69,7 @@ put_ite-requires-clause-widths c =
 pub returns-in-IteOf : goal.returns-in-IteOf
 returns-in-IteOf c =
     let here = source_here c.args.nodes.now c.args.i c.args.source (IteOf c.in-IteOf.c c.in-IteOf.a c.in-IteOf.b) c.requires.inside c.requires.source c.in-IteOf.is in
-    puts_ite c.args.nodes.now c.args.last.now c.args.inputs.now c.args.free.now c.args.spare.now c.args.i here.0 c.put_ite.new.row c.requires.well_formed c.requires.inside c.requires.long here.1 c.in-IteOf.c c.in-IteOf.a c.in-IteOf.b here.2 c.put_ite.ensures
+    puts_ite c.args.nodes.now c.args.last.now c.args.supplied.now.inputs.now c.args.supplied.now.free.now c.args.spare.now c.args.i here.0 c.put_ite.new.row c.requires.well_formed c.requires.inside c.requires.long here.1 c.in-IteOf.c c.in-IteOf.a c.in-IteOf.b here.2 c.put_ite.ensures
 
 pub put_and-requires-clause-first : goal.put_and-requires-clause-first
 put_and-requires-clause-first c =
@@ -89,7 +89,7 @@ put_and-requires-clause-fits c =
 pub returns-in-AndOf : goal.returns-in-AndOf
 returns-in-AndOf c =
     let here = source_here c.args.nodes.now c.args.i c.args.source (AndOf c.in-AndOf.a c.in-AndOf.b) c.requires.inside c.requires.source c.in-AndOf.is in
-    puts_joined c.args.nodes.now c.args.last.now c.args.inputs.now c.args.free.now c.args.spare.now c.args.i And c.in-AndOf.a c.in-AndOf.b here.0 c.put_and.new.row c.requires.well_formed c.requires.inside c.requires.long here.1 here.2 c.put_and.ensures
+    puts_joined c.args.nodes.now c.args.last.now c.args.supplied.now.inputs.now c.args.supplied.now.free.now c.args.spare.now c.args.i And c.in-AndOf.a c.in-AndOf.b here.0 c.put_and.new.row c.requires.well_formed c.requires.inside c.requires.long here.1 here.2 c.put_and.ensures
 
 pub put_or-requires-clause-first : goal.put_or-requires-clause-first
 put_or-requires-clause-first c =
@@ -109,7 +109,7 @@ put_or-requires-clause-fits c =
 pub returns-in-OrOf : goal.returns-in-OrOf
 returns-in-OrOf c =
     let here = source_here c.args.nodes.now c.args.i c.args.source (OrOf c.in-OrOf.a c.in-OrOf.b) c.requires.inside c.requires.source c.in-OrOf.is in
-    puts_joined c.args.nodes.now c.args.last.now c.args.inputs.now c.args.free.now c.args.spare.now c.args.i Or c.in-OrOf.a c.in-OrOf.b here.0 c.put_or.new.row c.requires.well_formed c.requires.inside c.requires.long here.1 here.2 c.put_or.ensures
+    puts_joined c.args.nodes.now c.args.last.now c.args.supplied.now.inputs.now c.args.supplied.now.free.now c.args.spare.now c.args.i Or c.in-OrOf.a c.in-OrOf.b here.0 c.put_or.new.row c.requires.well_formed c.requires.inside c.requires.long here.1 here.2 c.put_or.ensures
 
 pub put_eq-requires-clause-first : goal.put_eq-requires-clause-first
 put_eq-requires-clause-first c =
@@ -124,4 +124,4 @@ put_eq-requires-clause-second c =
 pub returns-in-EqOf : goal.returns-in-EqOf
 returns-in-EqOf c =
     let here = source_here c.args.nodes.now c.args.i c.args.source (EqOf c.in-EqOf.a c.in-EqOf.b) c.requires.inside c.requires.source c.in-EqOf.is in
-    puts_joined c.args.nodes.now c.args.last.now c.args.inputs.now c.args.free.now c.args.spare.now c.args.i Eq c.in-EqOf.a c.in-EqOf.b here.0 c.put_eq.new.row c.requires.well_formed c.requires.inside c.requires.long here.1 here.2 c.put_eq.ensures
+    puts_joined c.args.nodes.now c.args.last.now c.args.supplied.now.inputs.now c.args.supplied.now.free.now c.args.spare.now c.args.i Eq c.in-EqOf.a c.in-EqOf.b here.0 c.put_eq.new.row c.requires.well_formed c.requires.inside c.requires.long here.1 here.2 c.put_eq.ensures
