@@ -18,13 +18,13 @@ use name_maps::NameSet;
 use std::alloc::Global;
 use text_core::{Name, NoMemory, Refusal};
 
-// The variables of a list as an index by name, or None where a name occurs twice.
+// The variables of a list as an index by name, or None where a name occurs twice or 32 bits can't number the variables.
 fn locals_once(alloc: Global, entries: &[Declared]) -> Result<Option<Locals>, NoMemory>
     ensures locals { IfOk result (λ o. IfSome o (λ l. l ≡ locals_among entries.now)) }
     ensures once { IfOk result (λ o. IfSome o (λ l. length (names_after [] entries.now) ≡ length entries.now)) }
 {
     if entries.len() > u32::MAX as usize {
-        return Err(NoMemory);
+        return Ok(None);
     }
     let mut locals = Locals::new(alloc);
     for entry in entries {

@@ -1,6 +1,6 @@
 -- What a scope keeps, where something is added.
 use Rattle.std.proofs.Common.{◌≡◌, ◌⊎◌, ℕ, zero, suc, ◌+◌, ◌-◌, ◌<◌, ◌≤◌, ◌^◌, Bool, true, false, cond, ◌||◌, is_some, is_none, List, [], ◌∷◌, ◌++◌, map, length, take, min, get_or, Option, None, Some, refl, sym, ap, ◌∙◌, subst, arith, inl, inr, append_assoc, append-nil}
-use Rattle.std.specs.Prelude.{slice_get, option_and_then, codes}
+use Rattle.std.specs.Prelude.{slice_get, slice_index_or, option_and_then, codes}
 use Rattle.std.specs.List.{AllByRecursion}
 use Rattle.std.proofs.lemmas.Option.{same_Some, none-some, slice_get_within, slice_get-get_or}
 use Rattle.std.proofs.lemmas.List.{take-append-le, length-append, length-take}
@@ -14,7 +14,7 @@ use Rattle.moxi_terms.specs.Tree.{Tree, constant, variable, bound, apply, bindin
 use Rattle.moxi_terms.specs.View.{ScopeState}
 use Rattle.moxi_terms.specs.Sorts.{IsSort, IsConstant, IsOf}
 use Rattle.moxi_terms.specs.Sorted.{HasSort, HaveSorts, IsFunction, AreFunctions}
-use Rattle.moxi_terms.specs.Names.{enumeration_names, sort_names, function_names, all_constants, numbered, constant_numbers, with_enumeration, with_function, is_among, is_term_name, is_sort_name, constant_named}
+use Rattle.moxi_terms.specs.Names.{enumeration_names, sort_names, function_names, all_constants, constant_count, numbered, constant_numbers, with_enumeration, with_function, is_among, is_term_name, is_sort_name, constant_named}
 use Rattle.name_maps.specs.Names.{place_of}
 use Rattle.moxi_terms.specs.Words.{is_operator}
 use Rattle.std.specs.Str.{bytes_eq}
@@ -232,3 +232,17 @@ no_enumeration s q h =
 -- the names with one more, where it is new
 pub with_new : (names all : List (List ℕ)) (x : List ℕ) (fresh : Bool) → place_of names x ≡ None → fresh ≡ is_none (place_of names x) → all ≡ cond fresh (names ++ x ∷ []) names → all ≡ names ++ x ∷ []
 with_new names all x fresh h e f = f ∙ ap (λ b. cond b (names ++ x ∷ []) names) (e ∙ ap is_none h)
+
+-- an enumeration has no more constants than all enumerations have
+pub count_few : (es : List Enumeration) (n : ℕ) → constant_count es n ≤ length (all_constants es)
+count_few [] n = omega arith
+count_few (e ∷ es) zero = omega (arith, length-append e.constants (all_constants es))
+count_few (e ∷ es) (suc n) =
+    let h : constant_count es n ≤ length (all_constants es) = count_few es n in
+    omega (arith, length-append e.constants (all_constants es), h)
+
+-- the enumeration that is there at a number
+pub count_there : (es : List Enumeration) (n : ℕ) (e : Enumeration) → n < length es → e ≡ slice_index_or es n e → length e.constants ≡ constant_count es n
+count_there [] n e h i = absurd (omega (arith, h))
+count_there (x ∷ es) zero e h i = ap (λ (y : Enumeration). length y.constants) i
+count_there (x ∷ es) (suc n) e h i = count_there es n e (omega (arith, h)) i

@@ -1,5 +1,5 @@
 -- Names: their places in lists, and what a scope declares by them.
-use Rattle.std.specs.Prelude.{ℕ, ◌+◌, ◌-◌, ◌^◌, nat_lt, suc, Bool, not, ◌&&◌, ◌||◌, if◌then◌else◌, Option, None, Some, is_some, option_and_then, List, [], ◌∷◌, ◌++◌, map, length, slice_get, codes}
+use Rattle.std.specs.Prelude.{ℕ, ◌+◌, ◌-◌, ◌^◌, nat_lt, suc, Bool, not, ◌&&◌, ◌||◌, if◌then◌else◌, Option, None, Some, is_some, option_and_then, List, [], ◌∷◌, ◌++◌, map, length, slice_get, slice_index_or, codes}
 use Rattle.std.specs.Option.{option_map}
 use Rattle.std.specs.List.{list_any}
 use Rattle.std.specs.Str.{bytes_eq}
@@ -28,6 +28,10 @@ function_names s = map (λ (f : PlainFunction). f.name) s.functions
 abbrev pub all_constants : List Enumeration → List (List ℕ)
 all_constants [] = []
 all_constants (e ∷ es) = e.constants ++ all_constants es
+
+-- how many constants the enumeration number n has
+abbrev pub constant_count : List Enumeration → ℕ → ℕ
+constant_count es n = length (slice_index_or es n (record { name = []; constants = [] })).constants
 
 -- a number for each constant, from i on, in the enumeration number n
 abbrev pub numbered : ℕ → ℕ → List (List ℕ) → List (ℕ × ℕ)

@@ -2,7 +2,7 @@
 ghost use Rattle.std.specs.Prelude.{◌≡◌, ◌<◌, ◌≤◌, ◌^◌, ◌-◌, ◌+◌, ◌++◌, take, not, length, map, IfOk, OnOk, OnErr, Some, None, if◌then◌else◌, option_and_then, slice_get, IsTrue};
 ghost use Rattle.std.specs.List.{list_any};
 ghost use Rattle.std.specs.Option.{option_map};
-ghost use Rattle.moxi_terms.specs.Names.{all_constants, constant_named, has_room, is_sort_name, is_term_name, may_be_enumeration, no_scope, numbered, or_else, function_names, sort_named, with_enumeration, with_function, with_sort};
+ghost use Rattle.moxi_terms.specs.Names.{all_constants, constant_count, constant_named, has_room, is_sort_name, is_term_name, may_be_enumeration, no_scope, numbered, or_else, function_names, sort_named, with_enumeration, with_function, with_sort};
 ghost use Rattle.name_maps.specs.Names.{place_of};
 ghost use Rattle.moxi_terms.specs.Meanings.{bare_call, call_of, head_named, value_named};
 ghost use Rattle.moxi_terms.specs.Scopes.{enumeration_now, constants_now, named_sort_now, function_now};
@@ -196,6 +196,17 @@ impl Scope {
             Some(&self.enumerations.at(n as usize).constants)
         } else {
             None
+        }
+    }
+
+    /// Returns the number of constants of enumeration sort number n, or 0 if there is no such sort.
+    pub fn constant_count(&self, n: u32) -> u32
+        ensures { result ≡ constant_count self.now.enumerations n }
+    {
+        if (n as usize) < self.enumerations.len() {
+            self.enumerations.at(n as usize).constants.len() as u32
+        } else {
+            0
         }
     }
 
