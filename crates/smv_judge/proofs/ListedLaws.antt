@@ -56,14 +56,14 @@ pub first_can : (flat : FlatParts) (order : RowOrder) (s : List Given) (states a
     → CanGive flat order s label
 first_can flat order s states all labels label e h = λ is.
     let a = subst (λ (ss : List (List Given)). AllListed (parts_plain flat).items ss labels label) e (h is) in
-    record { apart = a.apart; state = a.states.0; label = a.last }
+    record { apart = a.apart; in_state = a.states.0; in_label = a.last }
 
 -- the following state under the label that leads to it
 pub next_can : (flat : FlatParts) (order : RowOrder) (s u l last : List Given) (states us labels ls : List (List Given)) → states ≡ u ∷ us → labels ≡ l ∷ ls → (order.listed ≡ true → AllListed (parts_plain flat).items (s ∷ states) labels last)
     → CanGive flat order u l
 next_can flat order s u l last states us labels ls e f h = λ is.
     let a = subst (λ (xs : List (List Given)). AllListed (parts_plain flat).items (s ∷ u ∷ us) xs last) f (subst (λ (ss : List (List Given)). AllListed (parts_plain flat).items (s ∷ ss) labels last) e (h is)) in
-    record { apart = a.apart; state = a.states.1.0; label = a.labels.0 }
+    record { apart = a.apart; in_state = a.states.1.0; in_label = a.labels.0 }
 
 pub rest_listed : (items : List PlainFlatItem) (s u l last : List Given) (states us labels ls : List (List Given)) → states ≡ u ∷ us → labels ≡ l ∷ ls → AllListed items (s ∷ states) labels last → AllListed items (u ∷ us) ls last
 rest_listed items s u l last states us labels ls e f h =

@@ -12,5 +12,6 @@ pub mod ReadParts
 pub mod VariableRows
 pub mod RowLaw
 pub mod Relabelled
-pub mod Listed
+pub mod InOrder
 pub mod FlatOrders
+pub mod Inputs

@@ -64,3 +64,9 @@ inputs_given flat s before label after old other new size row also same are = re
       (item_joined s before label after (row_values other k) (row_values old k) (slice_get flat.items.now k)
       (subst (GivesItem s before (row_values old k)) (slice_get-map item_plain flat.items.now k) (row.variables k)) (also.variables k));
 }
+
+-- the same of what the code reads of the other row
+pub inputs_now : (flat : FlatParts) (s before label after : Valuation) (old other read new : List Seen) → read ≡ other → length old ≡ length flat.items.now → IsRow (parts_plain flat) s before (row_values old) → IsGiven flat.items.now after label other
+    → length new ≡ length old → ((k : ℕ) → row_values new k ≡ input_or (slice_get flat.items.now k) (row_values read k) (row_values old k)) → IsGiven flat.items.now s label new
+inputs_now flat s before label after old other read new e size row also same are =
+    inputs_given flat s before label after old other new size row also same (subst (λ (xs : List Seen). (k : ℕ) → row_values new k ≡ input_or (slice_get flat.items.now k) (row_values xs k) (row_values old k)) e are)

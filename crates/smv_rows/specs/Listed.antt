@@ -34,8 +34,8 @@ lists_label items gs = are_named_after (filter (λ m. is_input m.kind) items) gs
 -- no two items have one name, and the state and the label name their variables in the order of the items
 pub record AreListed (items : List PlainFlatItem) (state label : List Given) : Type 0 where
   pub apart : AreDistinct (map (λ m. m.name) items)
-  pub state : lists_state items state ≡ true
-  pub label : lists_label items label ≡ true
+  pub in_state : lists_state items state ≡ true
+  pub in_label : lists_label items label ≡ true
 
 -- ---- values in order
 

@@ -1,8 +1,8 @@
 // Values of states and labels that are in the order of the items.
-ghost use Rattle.std.specs.Prelude.{◌≡◌, ℕ, length, map, slice_get, OnOk};
+ghost use Rattle.std.specs.Prelude.{◌≡◌, ◌<◌, ◌==◌, ℕ, Some, length, map, slice_get, if◌then◌else◌, OnOk};
 ghost use Rattle.smv_operators.specs.View.{seen_value};
 ghost use Rattle.smv_flat_evaluation.specs.RowValues.{row_values};
-ghost use Rattle.smv_rows.specs.Listed.{first_given, behind_first, listed_values};
+ghost use Rattle.smv_rows.specs.Listed.{first_given, behind_first, next_value, state_left, label_left, listed_values};
 ghost use Rattle.smv_rows.specs.Relabelling.{input_or};
 
 use crate::order::is_input;
@@ -24,6 +24,35 @@ fn next_given<'a>(rest: &'a [Given]) -> (Seen<'a>, &'a [Given])
     }
 }
 
+// The value of an item of this kind, and what is left of the state and of the label behind it.
+#[inline(always)]
+fn next_value<'a>(
+    kind: ItemKind,
+    state: &'a [Given],
+    label: &'a [Given],
+) -> (Seen<'a>, &'a [Given], &'a [Given])
+    ensures value { seen_value result.0 ≡ next_value kind state.now label.now }
+    ensures state { result.1.now ≡ state_left kind state.now }
+    ensures label { result.2.now ≡ label_left kind label.now }
+{
+    match kind {
+        ItemKind::State => {
+            let (value, left) = next_given(state);
+            (value, left, label)
+        }
+        ItemKind::Frozen => {
+            let (value, left) = next_given(state);
+            (value, left, label)
+        }
+        ItemKind::Input => {
+            let (value, left) = next_given(label);
+            (value, state, left)
+        }
+        ItemKind::Define => (no_seen(), state, label),
+        ItemKind::Actual => (no_seen(), state, label),
+    }
+}
+
 /// Sets each state and frozen variable to the next value of the state, and each input to the next value of the label.
 ///
 /// The other items have no value yet.
@@ -40,23 +69,27 @@ pub(crate) fn give_listed<'a>(
     let mut label = label;
     let mut rest = items;
     while let Some((item, more)) = rest.split_first() {
-        let value = match item.kind {
-            ItemKind::State | ItemKind::Frozen => {
-                let (value, left) = next_given(state);
-                state = left;
-                value
-            }
-            ItemKind::Input => {
-                let (value, left) = next_given(label);
-                label = left;
-                value
-            }
-            ItemKind::Define | ItemKind::Actual => no_seen(),
-        };
-        values.push(value)?;
+        let (value, state_left, label_left) = next_value(item.kind, state, label);
+        if values.push(value).is_err() {
+            return Err(NoMemory);
+        }
+        state = state_left;
+        label = label_left;
         rest = more;
     }
     Ok(())
+}
+
+// Sets an item to its value in the other row, if it is an input.
+#[inline(always)]
+fn give_input<'a>(item: &FlatItem, k: usize, other: &[Seen<'a>], values: &mut Vec<Seen<'a>>)
+    requires { k < length values.old.items }
+    ensures size { length values.new.items ≡ length values.old.items }
+    ensures value { (n : ℕ) → row_values values.new.items n ≡ (if k == n then input_or (Some item.now) (row_values other.now k) (row_values values.old.items k) else row_values values.old.items n) }
+{
+    if is_input(item.kind) {
+        values[k] = item_at(other, k);
+    }
 }
 
 /// Sets each input to its value in the other row.
@@ -66,8 +99,6 @@ pub(crate) fn give_inputs<'a>(items: &[FlatItem], other: &[Seen<'a>], values: &m
     ensures inputs { (k : ℕ) → row_values values.new.items k ≡ input_or (slice_get items.now k) (row_values other.now k) (row_values values.old.items k) }
 {
     for k in 0..items.len() {
-        if is_input(items[k].kind) {
-            values[k] = item_at(other, k);
-        }
+        give_input(&items[k], k, other, values);
     }
 }

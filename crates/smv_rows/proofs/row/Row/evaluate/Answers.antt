@@ -12,4 +12,4 @@ fill_bodies-requires-clause-safe c =
 pub returns-clause-values : goal.returns-clause-values
 returns-clause-values c =
     filled_is c.args.flat.now c.args.order.now c.requires.order c.args.self.now.values.items c.fill_bodies.new.values.items c.as_slice.result.now c.as_slice-2.result.now c.as_slice.ensures.value
-    c.as_slice-2.ensures c.fill_bodies.ensures
+    c.as_slice-2.ensures c.fill_bodies.ensures.row

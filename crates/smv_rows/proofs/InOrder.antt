@@ -151,5 +151,10 @@ listed_give items s l values a e = record {
       let is : value_or_none (slice_get (listed_values (map (λ (m : PlainFlatItem). m.kind) (map item_plain items)) s l) k) ≡ row_values values k =
       ap (λ (ks : List ItemKind). value_or_none (slice_get (listed_values ks s l) k)) (sym (same_kinds items)) ∙ ap (λ (vs : List Value). value_or_none (slice_get vs k)) (sym e) ∙ value_is values k in
       subst (GivesItem (given s) (given l) (row_values values k)) (slice_get-map item_plain items k)
-      (subst (λ v. GivesItem (given s) (given l) v (slice_get (map item_plain items) k)) is (values_are (map item_plain items) a.apart s l a.state a.label k));
+      (subst (λ v. GivesItem (given s) (given l) v (slice_get (map item_plain items) k)) is (values_are (map item_plain items) a.apart s l a.in_state a.in_label k));
 }
+
+-- the same of what the code reads of the state and the label
+pub listed_given : (items : List FlatItem) (s l state label : List Given) (values : List Seen) → state ≡ s → label ≡ l → AreListed (map item_plain items) s l → map seen_value values ≡ listed_values (map (λ m. m.kind) items) state label → IsGiven items (given s) (given l) values
+listed_given items s l state label values e f a is =
+    listed_give items s l values a (is ∙ ap (λ (x : List Given). listed_values (map (λ (m : FlatItem). m.kind) items) x label) e ∙ ap (listed_values (map (λ (m : FlatItem). m.kind) items) s) f)
