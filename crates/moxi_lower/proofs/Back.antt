@@ -15,7 +15,8 @@ use Rattle.moxi_terms.specs.Tree.{sorts_of}
 use Rattle.moxi_terms.specs.Value.{Values, at}
 use Rattle.moxi_terms.proofs.SortLaws.{fit_long}
 use Rattle.moxi_terms.proofs.ValueLaws.{fit_at}
-use Rattle.moxi_lines.specs.Codes.{code_of, constant_count, sort_bits}
+use Rattle.moxi_terms.specs.Names.{constant_count}
+use Rattle.moxi_lines.specs.Codes.{code_of, sort_bits}
 use Rattle.moxi_lines.specs.Decoding.{decoded_datum}
 use Rattle.moxi_lines.proofs.CodeLaws.{comes_back, count_is}
 use Rattle.moxi_layout.proofs.Entries.{sorts_long}
