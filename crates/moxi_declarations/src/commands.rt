@@ -1,6 +1,6 @@
 // The commands of a script.
 ghost use Rattle.std.specs.Str.{bytes_eq};
-ghost use Rattle.std.specs.Prelude.{codes, ◌≡◌, ◌++◌, [], Some, IfOk, OnOk};
+ghost use Rattle.std.specs.Prelude.{codes, ◌≡◌, ◌<◌, ◌+◌, ◌^◌, ◌++◌, [], suc, Some, IfOk, OnOk};
 ghost use Rattle.moxi_sexpr.specs.Tree.{plain, plain_forms};
 ghost use Rattle.moxi_term_reading.specs.Forms.{only_of, symbol_now};
 ghost use Rattle.moxi_scripts.specs.declared.parts.CommandName.TheVariants as name;
@@ -9,6 +9,7 @@ ghost use Rattle.moxi_scripts.specs.Commands.{command_failures, command_named, c
 ghost use Rattle.moxi_scripts.specs.Commands.{headed_failures, known_failures, logic_failures, logic_of, logic_symbol};
 ghost use Rattle.moxi_scripts.specs.Commands.{logic_symbol_failures, nothing_read, other_name, reading_after, system_name};
 ghost use Rattle.moxi_scripts.specs.Commands.{with_command, with_form, with_headed, with_known};
+ghost use Rattle.moxi_declarations.specs.Sizes.{all_nodes, nodes, reading_size};
 ghost use Rattle.moxi_declarations.specs.Views.{plain_draft};
 ghost use Rattle.moxi_attributes.specs.Views.{headed_here};
 
@@ -198,6 +199,7 @@ fn read_command(
     forms: &[Form],
     found: &mut Option<Refusal>,
 ) -> Result<(), NoMemory>
+    requires few { reading_size (plain_draft draft.old) + suc (all_nodes (plain_forms forms.now)) < 2 ^ 32 }
     ensures draft { OnOk result (plain_draft draft.new ≡ with_command c (plain_draft draft.old) p (plain_forms forms.now)) }
     ensures finds { OnOk result (found.new ≡ also found.old (command_failures c (plain_draft draft.old) p (plain_forms forms.now))) }
 {
@@ -264,6 +266,7 @@ fn read_headed(
     h: Headed,
     found: &mut Option<Refusal>,
 ) -> Result<(), NoMemory>
+    requires few { reading_size (plain_draft draft.old) + suc (all_nodes (headed_here h).rest) < 2 ^ 32 }
     ensures draft { OnOk result (plain_draft draft.new ≡ with_headed (plain_draft draft.old) p (Some (headed_here h.entry))) }
     ensures finds { OnOk result (found.new ≡ also found.old (headed_failures (plain_draft draft.old) p (Some (headed_here h.entry)))) }
 {
@@ -287,6 +290,7 @@ fn read_form(
     form: &Form,
     found: &mut Option<Refusal>,
 ) -> Result<(), NoMemory>
+    requires few { reading_size (plain_draft draft.old) + nodes (plain form.now) < 2 ^ 32 }
     ensures draft { OnOk result (plain_draft draft.new ≡ with_form (plain_draft draft.old) (plain form.now)) }
     ensures finds { OnOk result (found.new ≡ also found.old (form_failures (plain_draft draft.old) (plain form.now))) }
 {
@@ -309,12 +313,15 @@ fn read_form(
 }
 
 /// Reads the commands of a script, and records their failing test with the least place and number.
+///
+/// What the commands declare is numbered with 32 bits. No command declares more than its form has nodes.
 pub fn read_commands(
     alloc: Global,
     forms: &[Form],
     draft: &mut Draft,
     found: &mut Option<Refusal>,
 ) -> Result<(), NoMemory>
+    requires few { reading_size (plain_draft draft.old) + all_nodes (plain_forms forms.now) < 2 ^ 32 }
     ensures draft { OnOk result (plain_draft draft.new ≡ reading_after (plain_draft draft.old) (plain_forms forms.now)) }
     ensures finds { OnOk result (found.new ≡ also found.old (commands_failures (plain_draft draft.old) (plain_forms forms.now))) }
 {

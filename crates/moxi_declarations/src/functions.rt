@@ -1,5 +1,5 @@
 // Functions.
-ghost use Rattle.std.specs.Prelude.{◌≡◌, ◌++◌, [], true, Some, IfOk, IfSome, OnOk, if◌then◌else◌};
+ghost use Rattle.std.specs.Prelude.{◌≡◌, ◌<◌, ◌-◌, ◌^◌, ◌++◌, [], true, Some, IfOk, IfSome, OnOk, if◌then◌else◌};
 ghost use Rattle.moxi_sexpr.specs.Tree.{plain as plain_form, plain_forms};
 ghost use Rattle.moxi_term_reading.specs.Answer.{IsRead};
 ghost use Rattle.moxi_terms.specs.Sorted.{IsFunction};
@@ -12,6 +12,7 @@ ghost use Rattle.moxi_scripts.specs.Declarations.{term_name_tests, typed_functio
 ghost use Rattle.moxi_scripts.specs.Declarations.{with_new_function, with_read_function, with_term_name, with_typed};
 ghost use Rattle.moxi_scripts.specs.Entries.{entries_of, known_sort, twice_failures, variables_of};
 ghost use Rattle.moxi_declarations.specs.FunctionView.{function_here, function_now};
+ghost use Rattle.moxi_declarations.specs.Sizes.{scope_size};
 
 use moxi_attributes::{
     Headed, append, declare_term_name, fail, fail_if, fail_primed, headed_forms, is_nothing,
@@ -128,15 +129,13 @@ fn add_function(
     sort: Option<Sort>,
     body: Term,
 ) -> Result<(), NoMemory>
-    requires { IfSome sort (λ r. IsFunction scope.old.enumerations scope.old.functions (typed_function name.now parameters.now (plain body) r)) }
+    requires function { IfSome sort (λ r. IsFunction scope.old.enumerations scope.old.functions (typed_function name.now parameters.now (plain body) r)) }
+    requires few { scope_size scope.old < 2 ^ 32 - 1 }
     ensures { OnOk result (scope.new ≡ with_typed scope.old name.now parameters.now (plain body) sort) }
 {
     match sort {
         None => Ok(()),
         Some(sort) => {
-            if !scope.has_room(0) {
-                return Err(NoMemory);
-            }
             scope.add_function(Function {
                 name: Name::of(alloc, name)?,
                 parameters: variables_of(alloc, parameters)?,
@@ -158,6 +157,7 @@ pub fn read_function(
     forms: &[Form],
     found: &mut Option<Refusal>,
 ) -> Result<(), NoMemory>
+    requires few { scope_size scope.old < 2 ^ 32 - 1 }
     ensures scope { OnOk result (scope.new ≡ with_read_function scope.old p (plain_forms forms.now)) }
     ensures names { OnOk result (names.new ≡ with_function_name scope.old names.old (function_forms (plain_forms forms.now))) }
     ensures adds { OnOk result (variables.new ≡ variables.old ++ parameters_in scope.old (function_forms (plain_forms forms.now))) }
@@ -185,6 +185,7 @@ fn define_function(
     f: FunctionParts,
     found: &mut Option<Refusal>,
 ) -> Result<(), NoMemory>
+    requires few { scope_size scope.old < 2 ^ 32 - 1 }
     ensures scope { OnOk result (scope.new ≡ with_function_of scope.old p (Some (function_here f.entry))) }
     ensures names { OnOk result (names.new ≡ with_function_name scope.old names.old (Some (function_here f.entry))) }
     ensures adds { OnOk result (variables.new ≡ variables.old ++ parameters_in scope.old (Some (function_here f.entry))) }
@@ -214,7 +215,8 @@ fn add_whole(
     sort: Option<Sort>,
     body: Term,
 ) -> Result<(), NoMemory>
-    requires { whole ≡ true → IfSome sort (λ r. IsFunction scope.old.enumerations scope.old.functions (typed_function name.now parameters.now (plain body) r)) }
+    requires function { whole ≡ true → IfSome sort (λ r. IsFunction scope.old.enumerations scope.old.functions (typed_function name.now parameters.now (plain body) r)) }
+    requires few { scope_size scope.old < 2 ^ 32 - 1 }
     ensures { OnOk result (scope.new ≡ (if whole then with_typed scope.old name.now parameters.now (plain body) sort else scope.old)) }
 {
     if whole {

@@ -1,5 +1,5 @@
 // Enumerations and defined sorts.
-ghost use Rattle.std.specs.Prelude.{◌≡◌, ◌<◌, OnOk, IfSome, Some, if◌then◌else◌, not, ◌++◌, length};
+ghost use Rattle.std.specs.Prelude.{◌≡◌, ◌<◌, ◌+◌, ◌-◌, ◌^◌, OnOk, IfSome, Some, if◌then◌else◌, not, ◌++◌, length};
 ghost use Rattle.moxi_sexpr.specs.Tree.{plain, plain_forms};
 ghost use Rattle.moxi_terms.specs.Names.{is_sort_name};
 ghost use Rattle.moxi_term_reading.specs.Reading.{prime_failures};
@@ -12,6 +12,7 @@ ghost use Rattle.moxi_scripts.specs.Declarations.{with_constants, with_new_enume
 ghost use Rattle.moxi_scripts.specs.Declarations.{constants_failures, may_be_constants, symbols_in};
 ghost use Rattle.moxi_scripts.specs.Shapes.{headed, named_in};
 ghost use Rattle.moxi_attributes.specs.Views.{headed_here, named_here};
+ghost use Rattle.moxi_declarations.specs.Sizes.{all_nodes, nodes, scope_size};
 
 use moxi_attributes::{
     Headed, Named, fail, fail_if, fail_primed, headed_forms, is_empty_list, known_sort,
@@ -49,6 +50,7 @@ pub fn read_enumeration(
     forms: &[Form],
     found: &mut Option<Refusal>,
 ) -> Result<(), NoMemory>
+    requires few { scope_size scope.old + all_nodes (plain_forms forms.now) < 2 ^ 32 }
     ensures scope { OnOk result (scope.new ≡ with_read_enumeration scope.old (plain_forms forms.now)) }
     ensures names { OnOk result (names.new ≡ with_enumeration_names scope.old names.old (named_in (headed (plain_forms forms.now)))) }
     ensures finds { OnOk result (found.new ≡ also found.old (enumeration_failures scope.old names.old p (plain_forms forms.now))) }
@@ -72,6 +74,7 @@ fn read_listed(
     n: Named,
     found: &mut Option<Refusal>,
 ) -> Result<(), NoMemory>
+    requires few { scope_size scope.old + nodes (named_here n).form < 2 ^ 32 - 1 }
     ensures scope { OnOk result (scope.new ≡ with_listed scope.old (named_here n.entry) (constants_in (named_here n.entry))) }
     ensures names { OnOk result (names.new ≡ with_listed_names scope.old names.old (constants_in (named_here n.entry))) }
     ensures finds { OnOk result (found.new ≡ also found.old (listed_failures scope.old names.old p (named_here n.entry) (constants_in (named_here n.entry)))) }
@@ -100,6 +103,7 @@ fn add_constants(
     forms: &[Form],
     found: &mut Option<Refusal>,
 ) -> Result<(), NoMemory>
+    requires few { scope_size scope.old + length (symbols_in (plain_forms forms.now)) < 2 ^ 32 - 1 }
     ensures scope { OnOk result (scope.new ≡ (if may_be_constants (plain_forms forms.now) then with_new_enumeration scope.old name.now (symbols_in (plain_forms forms.now)) else scope.old)) }
     ensures names { OnOk result (names.new ≡ with_constants scope.old names.old (plain_forms forms.now)) }
     ensures finds { OnOk result (found.new ≡ also found.old (constants_failures scope.old names.old (plain_forms forms.now) ++ fails_if (not (may_be_constants (plain_forms forms.now))) 12 q)) }
@@ -122,12 +126,10 @@ fn add_enumeration(
     name: &[u8],
     constants: Names,
 ) -> Result<(), NoMemory>
-    requires { 0 < length constants }
+    requires some { 0 < length constants }
+    requires few { scope_size scope.old + length constants < 2 ^ 32 - 1 }
     ensures { OnOk result (scope.new ≡ with_new_enumeration scope.old name.now constants) }
 {
-    if !scope.has_room(constants.len()) {
-        return Err(NoMemory);
-    }
     scope.add_enumeration(Name::of(alloc, name)?, constants)?;
     Ok(())
 }
@@ -140,6 +142,7 @@ pub fn read_sort(
     forms: &[Form],
     found: &mut Option<Refusal>,
 ) -> Result<(), NoMemory>
+    requires few { scope_size scope.old < 2 ^ 32 - 1 }
     ensures scope { OnOk result (scope.new ≡ with_read_sort scope.old p (plain_forms forms.now)) }
     ensures finds { OnOk result (found.new ≡ also found.old (sort_definition_failures scope.old p (plain_forms forms.now))) }
 {
@@ -172,6 +175,7 @@ fn define_sort(
     form: &Form,
     found: &mut Option<Refusal>,
 ) -> Result<(), NoMemory>
+    requires few { scope_size scope.old < 2 ^ 32 - 1 }
     ensures scope { OnOk result (scope.new ≡ with_defined_sort scope.old p (headed_here h.entry) (Some (plain parameters.now, plain form.now))) }
     ensures finds { OnOk result (found.new ≡ also found.old (defined_sort_tests scope.old p (headed_here h.entry) (Some (plain parameters.now, plain form.now)))) }
 {
@@ -197,15 +201,13 @@ fn add_sort(
     name: &[u8],
     sort: Option<Sort>,
 ) -> Result<(), NoMemory>
-    requires { IfSome sort (IsSort scope.old.enumerations) }
+    requires sort { IfSome sort (IsSort scope.old.enumerations) }
+    requires few { scope_size scope.old < 2 ^ 32 - 1 }
     ensures { OnOk result (scope.new ≡ with_sort_if scope.old name.now sort) }
 {
     match sort {
         None => Ok(()),
         Some(sort) => {
-            if !scope.has_room(0) {
-                return Err(NoMemory);
-            }
             scope.add_sort(Name::of(alloc, name)?, sort)?;
             Ok(())
         }

@@ -11,7 +11,8 @@ use Rattle.moxi_terms.specs.declared.data.Sort.TheVariants.{Truth, Bits, Choice}
 use Rattle.moxi_terms.specs.declared.term.Enumeration.{Enumeration}
 use Rattle.moxi_terms.specs.declared.term.Variable.{Variable}
 use Rattle.moxi_terms.specs.Tree.{sorts_of}
-use Rattle.moxi_lines.specs.Codes.{choice_width, constant_count, sort_bits}
+use Rattle.moxi_terms.specs.Names.{constant_count}
+use Rattle.moxi_lines.specs.Codes.{choice_width, sort_bits}
 use Rattle.moxi_lines.specs.TermLines.{place_in}
 use Rattle.moxi_lines.specs.Decoding.{PlacesInside}
 use Rattle.moxi_lines.specs.Variables.{IsInside}

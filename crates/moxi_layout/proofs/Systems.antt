@@ -14,11 +14,12 @@ use Rattle.moxi_terms.specs.declared.term.Enumeration.{Enumeration}
 use Rattle.moxi_terms.specs.declared.term.Variable.{Variable}
 use Rattle.moxi_terms.specs.Sorted.{AreFunctions}
 use Rattle.moxi_terms.specs.Tree.{Tree, sorts_of}
+use Rattle.moxi_terms.specs.Names.{constant_count}
 use Rattle.moxi_flat.specs.Terms.{call_sizes, term_size}
 use Rattle.moxi_flat.specs.FlatSizes.{part_size}
 use Rattle.moxi_flat.specs.FlatSorts.{IsFlatTruth, PartIsSorted}
 use Rattle.moxi_flat.specs.FlatSystem.{PlainFlatSystem, PlainPart}
-use Rattle.moxi_lines.specs.Codes.{choice_width, constant_count, sort_bits}
+use Rattle.moxi_lines.specs.Codes.{choice_width, sort_bits}
 use Rattle.moxi_lines.specs.TermLines.{AllBuilt, Built, with_binary, with_constant}
 use Rattle.moxi_lines.specs.Lines.{first_place, input_place, is_true_term, state_place, symbol_of, with_code, with_constraint, with_formula, with_free, with_given, with_init, with_inv, with_part, with_parts, with_state, with_step, with_trans, with_variable, with_variables}
 use Rattle.moxi_layout.proofs.Growth.{Grows, grows_more, grows_none, grows_then, is_sort, push_grows, sorted_grows}

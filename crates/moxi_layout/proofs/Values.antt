@@ -15,9 +15,10 @@ use Rattle.moxi_terms.specs.Sorts.{IsOf, IsSort}
 use Rattle.moxi_terms.specs.Tree.{sorts_of}
 use Rattle.moxi_terms.specs.Value.{Values}
 use Rattle.moxi_terms.proofs.ValueLaws.{read_at}
+use Rattle.moxi_terms.specs.Names.{constant_count}
 use Rattle.moxi_scripts.specs.Behaviour.{Suits}
 use Rattle.moxi_flat.specs.FlatSystem.{PlainFlatSystem}
-use Rattle.moxi_lines.specs.Codes.{code_of, constant_count, sort_bits}
+use Rattle.moxi_lines.specs.Codes.{code_of, sort_bits}
 use Rattle.moxi_lines.proofs.CodeLaws.{comes_back, count_is}
 use Rattle.moxi_lines.specs.Decoding.{PlacesInside, decoded_datum}
 use Rattle.moxi_lines.specs.Variables.{IsInside}

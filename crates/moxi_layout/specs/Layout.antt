@@ -17,10 +17,10 @@ use Rattle.moxi_terms.specs.declared.term.Variable.{Variable}
 use Rattle.moxi_terms.specs.Tree.{Tree}
 use Rattle.moxi_terms.specs.Value.{Values}
 use Rattle.moxi_terms.specs.View.{ScopeState}
+use Rattle.moxi_terms.specs.Names.{constant_count}
 use Rattle.moxi_scripts.specs.declared.script.Query.{Query}
 use Rattle.moxi_scripts.specs.Script.{formula_at}
 use Rattle.moxi_flat.specs.FlatSystem.{PlainFlatSystem, PlainPart}
-use Rattle.moxi_lines.specs.Codes.{constant_count}
 use Rattle.moxi_lines.specs.TermLines.{place_in}
 use Rattle.moxi_lines.specs.Lines.{has_conditions, is_true_term}
 use Rattle.moxi_lines.specs.Constraints.{is_true}

@@ -10,9 +10,10 @@ use Rattle.moxi_terms.specs.declared.data.Sort.TheVariants.{Choice}
 use Rattle.moxi_terms.specs.declared.term.Enumeration.{Enumeration}
 use Rattle.moxi_terms.specs.declared.term.Variable.{Variable}
 use Rattle.moxi_terms.specs.Tree.{Tree}
+use Rattle.moxi_terms.specs.Names.{constant_count}
 use Rattle.moxi_scripts.specs.declared.script.Query.{Query}
 use Rattle.moxi_flat.specs.FlatSystem.{PlainFlatSystem, PlainPart}
-use Rattle.moxi_lines.specs.Codes.{choice_width, constant_count, sort_bits}
+use Rattle.moxi_lines.specs.Codes.{choice_width, sort_bits}
 use Rattle.moxi_lines.specs.Lines.{formula_name, has_conditions, is_true_term, symbol_of}
 
 -- ---- of lines

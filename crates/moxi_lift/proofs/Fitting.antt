@@ -26,8 +26,9 @@ use Rattle.moxi_terms.specs.Sorts.{Fit, IsOf, IsSort}
 use Rattle.moxi_terms.specs.Tree.{sorts_of}
 use Rattle.moxi_terms.specs.Value.{at}
 use Rattle.moxi_terms.proofs.ValueLaws.{read_at}
+use Rattle.moxi_terms.specs.Names.{constant_count}
 use Rattle.moxi_flat.specs.FlatSystem.{PlainFlatSystem}
-use Rattle.moxi_lines.specs.Codes.{constant_count, sort_bits}
+use Rattle.moxi_lines.specs.Codes.{sort_bits}
 use Rattle.moxi_lines.specs.TermLaws.{HaveCodes}
 use Rattle.moxi_lines.specs.Decoding.{decoded_datum}
 use Rattle.moxi_lines.proofs.VariableLaws.{all_get, sort_wide}

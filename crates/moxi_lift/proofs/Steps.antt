@@ -1,8 +1,6 @@
 -- The values of a step, one behind the other.
-use Rattle.std.proofs.Common.{◌≡◌, ℕ, zero, suc, ◌+◌, ◌<◌, List, [], ◌∷◌, ◌++◌, length, get_or, Option, None, refl, sym, ap, ◌∙◌, subst, arith}
-use Rattle.std.specs.Prelude.{slice_get, slice_index_or}
-use Rattle.std.specs.Option.{option_map}
-use Rattle.std.proofs.lemmas.Option.{none-some}
+use Rattle.std.proofs.Common.{◌≡◌, ℕ, zero, suc, ◌+◌, ◌<◌, List, [], ◌∷◌, ◌++◌, length, get_or, Option, sym, ap, ◌∙◌, subst, arith}
+use Rattle.std.specs.Prelude.{slice_index_or}
 use Rattle.word_core.specs.Words.{BitVector}
 use Rattle.btor_frames.specs.Judged.{stated_or}
 use Rattle.btor_witness.specs.declared.witness.Stated.{Stated}
@@ -14,7 +12,7 @@ use Rattle.moxi_terms.specs.declared.term.Variable.{Variable}
 use Rattle.moxi_terms.specs.Sorted.{AreSorts}
 use Rattle.moxi_terms.specs.Sorts.{IsSort}
 use Rattle.moxi_terms.specs.Tree.{sorts_of}
-use Rattle.moxi_lines.specs.Codes.{constant_count, sort_bits}
+use Rattle.moxi_lines.specs.Codes.{sort_bits}
 use Rattle.moxi_lines.specs.Decoding.{decoded_datum}
 use Rattle.moxi_lift.specs.Lifted.{lifted_values, stated_datum, values_upto}
 
@@ -27,12 +25,6 @@ pub sort_known : (es : List Enumeration) (vs : List Variable) (v : ℕ) (x : Var
 sort_known es [] v x a h e = absurd (omega (arith, h))
 sort_known es (y ∷ vs) zero x a h e = subst (λ (z : Variable). IsSort es z.sort) e a.0
 sort_known es (y ∷ vs) (suc v) x a h e = sort_known es vs v x a.1 (omega (arith, h)) e
-
--- an enumeration that isn't there has no constants
-pub count_none : (es : List Enumeration) (n : ℕ) → None ≡ option_map (λ (e : Enumeration). e.constants) (slice_get es n) → 0 ≡ constant_count es n
-count_none [] n h = refl
-count_none (e ∷ es) zero h = absurd (none-some e.constants h)
-count_none (e ∷ es) (suc n) h = count_none es n h
 
 -- what is read at a place that is there
 pub read_there : {X : Type 0} (xs : List X) (i : ℕ) (x y : X) → i < length xs → x ≡ get_or xs i x → x ≡ get_or xs i y

@@ -5,7 +5,8 @@ ghost use Rattle.moxi_terms.specs.declared.data.Datum.TheVariants as datum;
 ghost use Rattle.moxi_terms.specs.Sorted.{AreSorts};
 ghost use Rattle.moxi_terms.specs.Sorts.{IsSort};
 ghost use Rattle.moxi_terms.specs.Tree.{sorts_of};
-ghost use Rattle.moxi_lines.specs.Codes.{constant_count, sort_bits};
+ghost use Rattle.moxi_terms.specs.Names.{constant_count};
+ghost use Rattle.moxi_lines.specs.Codes.{sort_bits};
 ghost use Rattle.moxi_lines.specs.Decoding.{decoded_datum};
 ghost use Rattle.btor_frames.specs.Judged.{stated_or};
 ghost use Rattle.btor_witness.specs.Printing.{IsBelow, TableOf};
@@ -40,43 +41,30 @@ fn bits_of(stated: Option<Word>) -> u128
     }
 }
 
-// The number of constants of the enumeration.
-fn constant_count(scope: &Scope, n: u32) -> usize
-    ensures { result ≡ constant_count scope.now.enumerations n }
+// The constant with this index, or the first one where there is none.
+fn constant_at(scope: &Scope, n: u32, place: u128) -> Datum
+    ensures { result ≡ (if nat_lt place (constant_count scope.now.enumerations n) then datum.Constant n place else datum.Constant n 0) }
 {
-    match scope.constants(n) {
-        Some(constants) => constants.len(),
-        None => 0,
-    }
-}
-
-// The constant with this index, or the first one where there is none. An index of more than 32 bits, which no constant has,
-// counts as out of memory.
-fn constant_at(scope: &Scope, n: u32, place: u128) -> Result<Datum, NoMemory>
-    ensures { IfOk result (λ value. value ≡ (if nat_lt place (constant_count scope.now.enumerations n) then datum.Constant n place else datum.Constant n 0)) }
-{
-    if place >= constant_count(scope, n) as u128 {
-        return Ok(Datum::Constant(n, 0));
-    }
-    match u32::try_from(place) {
-        Ok(place) => Ok(Datum::Constant(n, place)),
-        Err(_) => Err(NoMemory),
+    if place < u128::from(scope.constant_count(n)) {
+        Datum::Constant(n, place as u32)
+    } else {
+        Datum::Constant(n, 0)
     }
 }
 
 // The value of the sort that the stated word encodes, or that the zero word encodes where none is stated.
-fn value_of(scope: &Scope, sort: Sort, stated: Option<Word>) -> Result<Datum, NoMemory>
+fn value_of(scope: &Scope, sort: Sort, stated: Option<Word>) -> Datum
     requires { IsSort scope.now.enumerations sort }
-    ensures { IfOk result (λ value. value ≡ decoded_datum scope.now.enumerations sort (stated_or stated (sort_bits scope.now.enumerations sort))) }
+    ensures { result ≡ decoded_datum scope.now.enumerations sort (stated_or stated (sort_bits scope.now.enumerations sort)) }
 {
     match sort {
-        Sort::Truth => Ok(Datum::Truth(bits_of(stated) == 1)),
+        Sort::Truth => Datum::Truth(bits_of(stated) == 1),
         Sort::Bits(width) => {
             let word = match stated {
                 Some(word) => word,
                 None => zero_of(width),
             };
-            Ok(Datum::Bits(word))
+            Datum::Bits(word)
         }
         Sort::Choice(n) => constant_at(scope, n, bits_of(stated)),
     }
@@ -99,8 +87,7 @@ pub fn lifted_step(
     let table = table_of(alloc, stated, variables.len())?;
     let mut env = Env::with_capacity(alloc, variables.len())?;
     for v in 0..variables.len() {
-        let datum = value_of(scope, variables.at(v).sort, table[v])?;
-        env.push(datum)?;
+        env.push(value_of(scope, variables.at(v).sort, table[v]))?;
     }
     Ok(env)
 }

@@ -17,7 +17,8 @@ use Rattle.moxi_terms.specs.declared.data.Datum.TheVariants as datum
 use Rattle.moxi_terms.specs.declared.term.Enumeration.{Enumeration}
 use Rattle.moxi_terms.specs.Sorts.{IsOf}
 use Rattle.moxi_terms.proofs.ValueLaws.{read_at}
-use Rattle.moxi_lines.specs.Codes.{choice_width, code_of, constant_count, datum_of, sort_bits, width_upto}
+use Rattle.moxi_terms.specs.Names.{constant_count}
+use Rattle.moxi_lines.specs.Codes.{choice_width, code_of, datum_of, sort_bits, width_upto}
 use Rattle.moxi_lines.specs.TermLaws.{HaveCodes}
 
 pub bool_cases : (b : Bool) → (b ≡ true) ⊎ (b ≡ false)

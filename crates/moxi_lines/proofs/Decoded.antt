@@ -18,7 +18,8 @@ use Rattle.moxi_terms.specs.Sorted.{AreSorts}
 use Rattle.moxi_terms.specs.Sorts.{IsOf, IsSort}
 use Rattle.moxi_terms.specs.Tree.{sorts_of}
 use Rattle.moxi_terms.proofs.ValueLaws.{read_at}
-use Rattle.moxi_lines.specs.Codes.{code_of, constant_count, sort_bits}
+use Rattle.moxi_terms.specs.Names.{constant_count}
+use Rattle.moxi_lines.specs.Codes.{code_of, sort_bits}
 use Rattle.moxi_lines.specs.TermLines.{place_in}
 use Rattle.moxi_lines.specs.TermLaws.{AreNumbered, HaveCodes, VariablesAreRepresented}
 use Rattle.moxi_lines.proofs.CodeLaws.{count_is, goes_back}

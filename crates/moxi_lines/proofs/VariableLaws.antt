@@ -28,7 +28,8 @@ use Rattle.moxi_terms.specs.declared.term.Variable.{Variable}
 use Rattle.moxi_terms.specs.Sorted.{AreSorts}
 use Rattle.moxi_terms.specs.Sorts.{IsSort}
 use Rattle.moxi_terms.specs.Tree.{sorts_of}
-use Rattle.moxi_lines.specs.Codes.{choice_width, constant_count, sort_bits}
+use Rattle.moxi_terms.specs.Names.{constant_count}
+use Rattle.moxi_lines.specs.Codes.{choice_width, sort_bits}
 use Rattle.moxi_lines.specs.TermLines.{AllBuilt, Built, with_binary, with_constant}
 use Rattle.moxi_lines.specs.TermLaws.{AreNumbered, HaveCodes}
 use Rattle.moxi_lines.proofs.CodeLaws.{choice_high, choice_holds, count_is, width_low}

@@ -1,6 +1,6 @@
 -- The word of a value, and the value of a word: a truth value has one bit, a constant of an enumeration its place, and a bit vector is
 -- a word itself.
-use Rattle.std.specs.Prelude.{◌==◌, ℕ, zero, suc, ◌^◌, nat_le, if◌then◌else◌, List, [], length, slice_index_or}
+use Rattle.std.specs.Prelude.{◌==◌, ℕ, zero, suc, ◌^◌, nat_le, if◌then◌else◌, List}
 use Rattle.word_core.specs.Words.{BitVector}
 use Rattle.word_core.specs.Table.{bit_of}
 use Rattle.moxi_terms.specs.declared.data.Sort.{Sort}
@@ -8,6 +8,7 @@ use Rattle.moxi_terms.specs.declared.data.Sort.TheVariants.{Truth, Bits, Choice}
 use Rattle.moxi_terms.specs.declared.data.Datum.{Datum}
 use Rattle.moxi_terms.specs.declared.data.Datum.TheVariants as datum
 use Rattle.moxi_terms.specs.declared.term.Enumeration.{Enumeration}
+use Rattle.moxi_terms.specs.Names.{constant_count}
 
 -- the least width from 1 to n + 1 that holds `count` places, or n + 1 where none does
 abbrev pub width_upto : ℕ → ℕ → ℕ
@@ -17,10 +18,6 @@ width_upto count (suc n) = if nat_le count (2 ^ width_upto count n) then width_u
 -- the least width of at least 1 that holds the places of so many constants
 abbrev pub choice_width : ℕ → ℕ
 choice_width count = width_upto count count
-
--- how many constants the enumeration number n has
-abbrev pub constant_count : List Enumeration → ℕ → ℕ
-constant_count es n = length (slice_index_or es n (record { name = []; constants = [] })).constants
 
 -- the width of the words of a sort
 abbrev pub sort_bits : List Enumeration → Sort → ℕ

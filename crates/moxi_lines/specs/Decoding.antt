@@ -13,7 +13,8 @@ use Rattle.moxi_terms.specs.declared.term.Variable.{Variable}
 use Rattle.moxi_terms.specs.Sorted.{AreSorts}
 use Rattle.moxi_terms.specs.Tree.{sorts_of}
 use Rattle.moxi_terms.specs.Value.{Values}
-use Rattle.moxi_lines.specs.Codes.{constant_count, datum_of}
+use Rattle.moxi_terms.specs.Names.{constant_count}
+use Rattle.moxi_lines.specs.Codes.{datum_of}
 use Rattle.moxi_lines.specs.TermLaws.{AreNumbered, HaveCodes, VariablesAreRepresented}
 use Rattle.moxi_lines.specs.Lines.{input_place, state_place}
 use Rattle.moxi_lines.specs.Variables.{AreVariablesAt, IsInside}

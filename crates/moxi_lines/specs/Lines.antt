@@ -14,10 +14,11 @@ use Rattle.moxi_terms.specs.declared.term.Variable.{Variable}
 use Rattle.moxi_terms.specs.Operators.{nothing}
 use Rattle.moxi_terms.specs.Tree.{Tree, constant}
 use Rattle.moxi_terms.specs.View.{ScopeState}
+use Rattle.moxi_terms.specs.Names.{constant_count}
 use Rattle.moxi_scripts.specs.declared.script.Query.{Query}
 use Rattle.moxi_scripts.specs.Script.{PlainFormula, formula_at}
 use Rattle.moxi_flat.specs.FlatSystem.{PlainFlatSystem, PlainPart}
-use Rattle.moxi_lines.specs.Codes.{choice_width, constant_count, sort_bits}
+use Rattle.moxi_lines.specs.Codes.{choice_width, sort_bits}
 use Rattle.moxi_lines.specs.TermLines.{AllBuilt, Built, call_lines, chain_lines, folded_lines, place_in, with_binary, with_constant, with_term}
 
 -- ---- symbols

@@ -10,7 +10,8 @@ use Rattle.moxi_terms.specs.declared.term.Enumeration.{Enumeration}
 use Rattle.moxi_terms.specs.declared.term.Variable.{Variable}
 use Rattle.moxi_terms.specs.Sorted.{AreSorts}
 use Rattle.moxi_terms.specs.Tree.{sorts_of}
-use Rattle.moxi_lines.specs.Codes.{constant_count, sort_bits}
+use Rattle.moxi_terms.specs.Names.{constant_count}
+use Rattle.moxi_lines.specs.Codes.{sort_bits}
 use Rattle.moxi_lines.specs.TermLaws.{AreNumbered, HaveCodes}
 use Rattle.moxi_lines.specs.Lines.{head_lines, with_variables}
 

@@ -17,7 +17,8 @@ use Rattle.moxi_terms.specs.Tree.{sorts_of}
 use Rattle.moxi_terms.specs.Value.{at}
 use Rattle.moxi_terms.proofs.SortLaws.{fit_long}
 use Rattle.moxi_terms.proofs.ValueLaws.{fit_at}
-use Rattle.moxi_lines.specs.Codes.{choice_width, code_of, constant_count}
+use Rattle.moxi_terms.specs.Names.{constant_count}
+use Rattle.moxi_lines.specs.Codes.{choice_width, code_of}
 use Rattle.moxi_lines.proofs.CodeLaws.{choice_high, choice_holds, count_is, width_low}
 use Rattle.moxi_layout.proofs.Entries.{sorts_long}
 use Rattle.moxi_lift.proofs.Steps.{read_there}

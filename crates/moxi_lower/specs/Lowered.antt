@@ -7,8 +7,9 @@ use Rattle.moxi_terms.specs.declared.data.Datum.{Datum}
 use Rattle.moxi_terms.specs.declared.data.Datum.TheVariants.{Constant}
 use Rattle.moxi_terms.specs.declared.term.Enumeration.{Enumeration}
 use Rattle.moxi_terms.specs.Value.{Values, at}
+use Rattle.moxi_terms.specs.Names.{constant_count}
 use Rattle.moxi_flat.specs.FlatSystem.{PlainFlatSystem}
-use Rattle.moxi_lines.specs.Codes.{code_of, constant_count}
+use Rattle.moxi_lines.specs.Codes.{code_of}
 
 -- the word of the value of variable v, stated of input v
 abbrev pub stated_code : List Enumeration → Values → ℕ → Stated

@@ -3,7 +3,7 @@ ghost use Rattle.std.specs.Prelude.{◌≡◌, ◌<◌, ◌^◌, length, map, No
 ghost use Rattle.std.specs.List.{AllByRecursion};
 ghost use Rattle.moxi_terms.specs.Sorts.{Fit};
 ghost use Rattle.moxi_terms.specs.Tree.{sorts_of};
-ghost use Rattle.moxi_lines.specs.Codes.{choice_width, code_of, constant_count};
+ghost use Rattle.moxi_lines.specs.Codes.{choice_width, code_of};
 ghost use Rattle.moxi_lower.specs.Laws.{AreSteps};
 ghost use Rattle.moxi_lower.specs.Lowered.{IsKnown, lowered, lowered_step};
 
@@ -15,16 +15,6 @@ use moxi_to_btor::choice_width;
 use std::alloc::Global;
 use text_core::NoMemory;
 use word_core::Word;
-
-// The number of constants of the enumeration.
-fn constant_count(scope: &Scope, n: u32) -> usize
-    ensures { result ≡ constant_count scope.now.enumerations n }
-{
-    match scope.constants(n) {
-        Some(constants) => constants.len(),
-        None => 0,
-    }
-}
 
 // The word of a constant's index, in an enumeration with this many constants.
 fn choice_code(count: usize, i: u32) -> Word
@@ -43,7 +33,7 @@ fn code_of(scope: &Scope, datum: Datum) -> Word
         Datum::Truth(true) => Word::of(1, 1).unwrap(),
         Datum::Truth(false) => Word::of(1, 0).unwrap(),
         Datum::Bits(word) => word,
-        Datum::Constant(n, i) => choice_code(constant_count(scope, n), i),
+        Datum::Constant(n, i) => choice_code(scope.constant_count(n) as usize, i),
     }
 }
 

@@ -4,6 +4,7 @@ ghost use Rattle.digraph.specs.Graph.{is_graph};
 ghost use Rattle.moxi_sexpr.specs.Tree.{plain_forms};
 ghost use Rattle.moxi_scripts.specs.Collecting.{also, fails_with};
 ghost use Rattle.moxi_scripts.specs.Commands.{nothing_read};
+ghost use Rattle.moxi_declarations.specs.Sizes.{all_nodes};
 ghost use Rattle.moxi_declarations.specs.Views.{plain_draft, plain_reading};
 ghost use Rattle.digraph.specs.Ranks.{IsRanking};
 ghost use Rattle.moxi_scripts.specs.Cycles.{all_cycles, all_use_rows, count_uses, cycle_failures, ends_at, nodes_from, system_rows, use_cycles, use_graph, use_rows, use_tests};
@@ -21,17 +22,15 @@ use text_core::kinds::moxi;
 use text_core::{Kind, List, NoMemory, Place, Refusal};
 
 // The number of subsystems.
-fn count_uses(systems: &[ReadSystem]) -> Result<usize, NoMemory>
-    ensures { IfOk result (λ n. n ≡ count_uses (map plain_reading systems.now)) }
+fn count_uses(systems: &[ReadSystem]) -> usize
+    requires { count_uses (map plain_reading systems.now) < 2 ^ 64 }
+    ensures { result ≡ count_uses (map plain_reading systems.now) }
 {
     let mut count = 0usize;
     for r in systems {
-        match count.checked_add(r.uses.len()) {
-            Some(n) => count = n,
-            None => return Err(NoMemory),
-        }
+        count += r.uses.len();
     }
-    Ok(count)
+    count
 }
 
 // The node of a system, if it exists.
@@ -123,15 +122,11 @@ fn add_system_rows(alloc: Global, systems: &[ReadSystem], graph: &mut Graph) -> 
 
 // The graph of subsystems and systems.
 fn use_graph(alloc: Global, names: &NameSet, systems: &[ReadSystem]) -> Result<Graph, NoMemory>
-    ensures graph { IfOk result (λ g. g ≡ use_graph (map plain_reading systems.now) names.now) }
-    ensures few { OnOk result (count_uses (map plain_reading systems.now) + length systems.now < 2 ^ 64) }
+    requires { count_uses (map plain_reading systems.now) + length systems.now < 2 ^ 64 }
+    ensures { IfOk result (λ g. g ≡ use_graph (map plain_reading systems.now) names.now) }
 {
-    let total = count_uses(systems)?;
+    let total = count_uses(systems);
     let mut graph = Graph::new(alloc);
-    match total.checked_add(systems.len()) {
-        None => return Err(NoMemory),
-        Some(_) => {}
-    }
     add_all_use_rows(alloc, names, total, systems, &mut graph)?;
     add_system_rows(alloc, systems, &mut graph)?;
     Ok(graph)
@@ -223,6 +218,7 @@ pub fn test_cycles(
     systems: &[ReadSystem],
     found: &mut Option<Refusal>,
 ) -> Result<(), NoMemory>
+    requires { count_uses (map plain_reading systems.now) + length systems.now < 2 ^ 64 }
     ensures { OnOk result (found.new ≡ also found.old (cycle_failures (map plain_reading systems.now) names.now)) }
 {
     let graph = use_graph(alloc, names, systems)?;
@@ -241,8 +237,10 @@ pub fn read_whole_script(
     draft: &mut Draft,
     found: &mut Option<Refusal>,
 ) -> Result<(), NoMemory>
-    requires { plain_draft draft.old ≡ nothing_read }
+    requires nothing { plain_draft draft.old ≡ nothing_read }
+    requires few { all_nodes (plain_forms forms.now) < 2 ^ 32 }
     ensures draft { OnOk result (plain_draft draft.new ≡ reading_of (plain_forms forms.now)) }
+    ensures few { OnOk result (length (plain_draft draft.new).system_names < 2 ^ 32) }
     ensures finds { OnOk result (found.new ≡ also found.old (script_failures (plain_forms forms.now) end)) }
 {
     read_commands(alloc, forms, draft, found)?;

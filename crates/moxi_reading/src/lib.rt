@@ -3,10 +3,10 @@
 
 mod cycles;
 mod links;
+mod nodes;
 mod outcome;
 mod read;
 
-pub use cycles::{read_whole_script, test_cycles};
 pub use links::test_links;
 pub use outcome::ScriptEnd;
 pub use read::read_script;

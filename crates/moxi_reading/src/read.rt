@@ -1,5 +1,5 @@
 // Scripts as values.
-ghost use Rattle.std.specs.Prelude.{◌≡◌, IfErr, IfOk, Some, map};
+ghost use Rattle.std.specs.Prelude.{◌≡◌, ◌<◌, ◌^◌, IfErr, IfOk, Some, length, map};
 ghost use Rattle.text_core.specs.declared.place.Refusal.{Refusal};
 ghost use Rattle.moxi_sexpr.specs.Printing.{ArePrintable};
 ghost use Rattle.moxi_sexpr.specs.Tree.{plain_forms};
@@ -8,6 +8,7 @@ ghost use Rattle.name_maps.specs.Names.{place_of};
 ghost use Rattle.moxi_terms.specs.View.{plain};
 ghost use Rattle.moxi_scripts.specs.Entries.{variables_of};
 ghost use Rattle.moxi_reading.specs.Answer.{IsFirstFailure, IsFirstOf, IsRefusal, IsScript};
+ghost use Rattle.moxi_declarations.specs.Sizes.{all_nodes};
 ghost use Rattle.moxi_declarations.specs.Views.{plain_check_reading, plain_draft, plain_reading};
 ghost use Rattle.moxi_scripts.specs.Commands.{nothing_read};
 ghost use Rattle.moxi_scripts.specs.Script.{PlainScript, plain_check, plain_system};
@@ -15,6 +16,7 @@ ghost use Rattle.moxi_scripts.specs.ScriptView.{plain_script};
 ghost use Rattle.moxi_scripts.specs.Spelling.{SpellsScript, actual_numbers, check_of, number_or_none, script_failures, subsystem_of, system_of};
 
 use crate::cycles::read_whole_script;
+use crate::nodes::{MANY, count_nodes};
 use crate::outcome::ScriptEnd;
 use moxi_attributes::{Labelled, variables_of};
 use moxi_declarations::{Draft, ReadCheck, ReadSystem, nothing_read};
@@ -29,15 +31,13 @@ use std::mem::{self, drop};
 use text_core::{List, Name, NoMemory, Numbers, Place};
 
 // The number of the system with this name.
-fn number_of(names: &NameSet, name: &[u8]) -> Result<u32, NoMemory>
-    ensures { IfOk result (λ n. n ≡ number_or_none (place_of names.now name.now)) }
+fn number_of(names: &NameSet, name: &[u8]) -> u32
+    requires { length names.now < 2 ^ 32 }
+    ensures { result ≡ number_or_none (place_of names.now name.now) }
 {
     match names.place(name) {
-        None => Ok(0),
-        Some(i) => match u32::try_from(i) {
-            Ok(n) => Ok(n),
-            Err(_) => Err(NoMemory),
-        },
+        None => 0,
+        Some(i) => i as u32,
     }
 }
 
@@ -55,16 +55,18 @@ fn actual_numbers(alloc: Global, actuals: &List<Actual>) -> Result<Numbers, NoMe
 
 // A subsystem, given the names of the systems.
 fn subsystem_of(alloc: Global, names: &NameSet, u: &Use) -> Result<Subsystem, NoMemory>
+    requires { length names.now < 2 ^ 32 }
     ensures { IfOk result (λ s. s ≡ subsystem_of names.now u.now) }
 {
     Ok(Subsystem {
         name: Name::of(alloc, u.name.bytes())?,
-        system: number_of(names, u.target.bytes())?,
+        system: number_of(names, u.target.bytes()),
         actuals: actual_numbers(alloc, &u.actuals)?,
     })
 }
 
 fn subsystems_of(alloc: Global, names: &NameSet, uses: &List<Use>) -> Result<Subsystems, NoMemory>
+    requires { length names.now < 2 ^ 32 }
     ensures { IfOk result (λ ss. ss ≡ map (subsystem_of names.now) uses.now) }
 {
     let mut subsystems = Subsystems::new(alloc);
@@ -117,6 +119,7 @@ fn system_with(r: ReadSystem, v: ListVariables, subsystems: Subsystems) -> Syste
 
 // A system, given the names of the systems.
 fn system_of(alloc: Global, names: &NameSet, r: ReadSystem) -> Result<System, NoMemory>
+    requires { length names.now < 2 ^ 32 }
     ensures { IfOk result (λ s. plain_system s ≡ system_of names.now (plain_reading r)) }
 {
     match system_parts(alloc, names, &r) {
@@ -134,6 +137,7 @@ fn system_parts(
     names: &NameSet,
     r: &ReadSystem,
 ) -> Result<(ListVariables, Subsystems), NoMemory>
+    requires { length names.now < 2 ^ 32 }
     ensures inputs { IfOk result (λ x. x.0.inputs ≡ variables_of r.now.lists.inputs.entries) }
     ensures outputs { IfOk result (λ x. x.0.outputs ≡ variables_of r.now.lists.outputs.entries) }
     ensures locals { IfOk result (λ x. x.0.locals ≡ variables_of r.now.lists.locals.entries) }
@@ -155,6 +159,7 @@ fn systems_of(
     names: &NameSet,
     systems: &mut Vec<ReadSystem>,
 ) -> Result<Systems, NoMemory>
+    requires { length names.now < 2 ^ 32 }
     ensures { IfOk result (λ ss. map plain_system ss ≡ map (system_of names.now) (map plain_reading systems.old.items)) }
 {
     systems.reverse();
@@ -180,12 +185,13 @@ fn check_parts(
     names: &NameSet,
     c: &ReadCheck,
 ) -> Result<(u32, ListVariables), NoMemory>
+    requires { length names.now < 2 ^ 32 }
     ensures system { IfOk result (λ x. x.0 ≡ number_or_none (place_of names.now c.now.target)) }
     ensures inputs { IfOk result (λ x. x.1.inputs ≡ variables_of c.now.lists.inputs.entries) }
     ensures outputs { IfOk result (λ x. x.1.outputs ≡ variables_of c.now.lists.outputs.entries) }
     ensures locals { IfOk result (λ x. x.1.locals ≡ variables_of c.now.lists.locals.entries) }
 {
-    let system = number_of(names, c.target.bytes())?;
+    let system = number_of(names, c.target.bytes());
     let v = list_variables(alloc, &c.lists)?;
     Ok((system, v))
 }
@@ -220,6 +226,7 @@ fn check_with(c: ReadCheck, system: u32, v: ListVariables) -> Check
 
 // A check, given the names of the systems.
 fn check_of(alloc: Global, names: &NameSet, c: ReadCheck) -> Result<Check, NoMemory>
+    requires { length names.now < 2 ^ 32 }
     ensures { IfOk result (λ x. plain_check x ≡ check_of names.now (plain_check_reading c)) }
 {
     match check_parts(alloc, names, &c) {
@@ -239,6 +246,7 @@ fn script_in(
     draft: &mut Draft,
 ) -> Result<Script, ScriptEnd>
     requires printable { ArePrintable (plain_forms forms.now.items) }
+    requires few { all_nodes (plain_forms forms.now.items) < 2 ^ 32 }
     requires nothing { plain_draft draft.old ≡ nothing_read }
     ensures spelled { IfOk result (λ s. SpellsScript (plain_forms forms.now.items) end (plain_script s)) }
     ensures refused { IfErr result (IsFirstFailure (plain_forms forms.now.items) end) }
@@ -272,7 +280,8 @@ fn script_in(
 /// Reads the script that forms spell, given the end of their text.
 ///
 /// If tests fail, the refusal is the one with the least place, and at one place the one with the least number. The kinds
-/// are M4 to M14. A script without a check fails at `end`.
+/// are M4 to M14. A script without a check fails at `end`. Systems, sorts, constants and functions are numbered with 32 bits, so
+/// forms of 2^32 or more atoms and lists count as out of memory. No text of up to 2^31 bytes has as many.
 pub fn read_script(alloc: Global, forms: &Forms, end: Place) -> Result<Script, ScriptEnd>
     requires { ArePrintable (plain_forms forms.now.items) }
     // The forms spell the script that is returned: no test fails.
@@ -286,6 +295,9 @@ pub fn read_script(alloc: Global, forms: &Forms, end: Place) -> Result<Script, S
     // The least of the failing tests is returned, unless memory runs out.
     ensures answered { (r : Refusal) → least (script_failures (plain_forms forms.now.items) end) ≡ Some r → IsRefusal r result }
 {
+    if count_nodes(forms) == MANY {
+        return Err(ScriptEnd::NoMemory);
+    }
     let mut draft = nothing_read(alloc);
     let script = script_in(alloc, forms, end, &mut draft);
     drop(draft);

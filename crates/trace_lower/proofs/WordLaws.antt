@@ -10,7 +10,8 @@ use Rattle.word_core.specs.Words.{IsWord}
 use Rattle.name_maps.specs.Names.{place_of}
 use Rattle.smv_script.specs.Codes.{integer_bits, number_or_zero}
 use Rattle.smv_script.specs.Script.{symbol_sort}
-use Rattle.moxi_lines.specs.Codes.{choice_width, constant_count}
+use Rattle.moxi_terms.specs.Names.{constant_count}
+use Rattle.moxi_lines.specs.Codes.{choice_width}
 use Rattle.moxi_lower.proofs.Steps.{choice_word, few_counts}
 
 -- ---- integers

@@ -13,8 +13,8 @@ use Rattle.moxi_attributes.specs.laws.Collecting.{also_two}
 use Rattle.moxi_scripts.proofs.FunctionLaws.{function_is, nil_is, none_is_nil, least_found, some_each}
 use Rattle.moxi_declarations.proofs.functions.define_function.Goals as goal
 
-pub add_whole-requires : goal.add_whole-requires
-add_whole-requires c = λ h.
+pub add_whole-requires-clause-function : goal.add_whole-requires-clause-function
+add_whole-requires-clause-function c = λ h.
     let a = c.args in
     let s = a.scope.now in
     let f = function_here a.f in

@@ -13,5 +13,5 @@ loop-v-preserved c =
     let long = c.in_ok-table.ensures.long in
     let inside : c.loop-v.v < length c.in_ok-table.table.items = omega (arith, within, long, c.len.ensures) in
     let word = read_there c.in_ok-table.table.items c.loop-v.v c.index.result.now None inside c.index.ensures ∙ c.in_ok-table.ensures.by_index c.loop-v.v in
-    step_more c.args.scope.now.enumerations c.args.variables.now c.args.stated.now c.loop-v.v c.at.result.now c.index.result.now c.in_ok-datum.datum c.loop-v.env c.push.new.self
-    within (sym c.at.ensures) word c.in_ok-datum.ensures c.loop-v.invariant c.in_ok-push.ensures.ok
+    step_more c.args.scope.now.enumerations c.args.variables.now c.args.stated.now c.loop-v.v c.at.result.now c.index.result.now c.value_of.result c.loop-v.env c.push.new.self
+    within (sym c.at.ensures) word c.value_of.ensures c.loop-v.invariant c.in_ok-push.ensures.ok

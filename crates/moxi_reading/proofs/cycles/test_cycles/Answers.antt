@@ -8,22 +8,22 @@ use Rattle.moxi_scripts.proofs.CycleLaws.{graph_is, graph_long}
 use Rattle.moxi_reading.proofs.cycles.test_cycles.Goals as goal
 
 pub of-requires : goal.of-requires
-of-requires c = ap is_graph c.in_ok-graph.ensures.graph ∙ graph_is (map plain_reading c.args.systems.now) c.args.names.now
+of-requires c = ap is_graph c.in_ok-graph.ensures ∙ graph_is (map plain_reading c.args.systems.now) c.args.names.now
 
 pub test_all_uses-requires-clause-graph : goal.test_all_uses-requires-clause-graph
-test_all_uses-requires-clause-graph c = ap is_graph c.in_ok-graph.ensures.graph ∙ graph_is (map plain_reading c.args.systems.now) c.args.names.now
+test_all_uses-requires-clause-graph c = ap is_graph c.in_ok-graph.ensures ∙ graph_is (map plain_reading c.args.systems.now) c.args.names.now
 
 pub test_all_uses-requires-clause-few : goal.test_all_uses-requires-clause-few
 test_all_uses-requires-clause-few c =
     let rs = map plain_reading c.args.systems.now in
-    omega (arith, ap length c.in_ok-graph.ensures.graph, graph_long rs c.args.names.now, length-map c.args.systems.now plain_reading, c.in_ok-graph.ensures.few)
+    omega (arith, ap length c.in_ok-graph.ensures, graph_long rs c.args.names.now, length-map c.args.systems.now plain_reading, c.requires)
 
 pub test_all_uses-requires-clause-there : goal.test_all_uses-requires-clause-there
 test_all_uses-requires-clause-there c =
     let rs = map plain_reading c.args.systems.now in
-    omega (arith, ap length c.in_ok-graph.ensures.graph, graph_long rs c.args.names.now)
+    omega (arith, ap length c.in_ok-graph.ensures, graph_long rs c.args.names.now)
 
 pub returns : goal.returns
 returns c =
     let rs = map plain_reading c.args.systems.now in
-    c.in_ok-test_all_uses.ensures ∙ ap (λ g. also c.args.found.now (all_cycles g 0 rs)) c.in_ok-graph.ensures.graph
+    c.in_ok-test_all_uses.ensures ∙ ap (λ g. also c.args.found.now (all_cycles g 0 rs)) c.in_ok-graph.ensures

@@ -1,4 +1,4 @@
-use Rattle.std.proofs.Common.{◌≡◌, Result, Ok, Err, IfOk, IfErr, Some, sym, ap, ◌∙◌}
+use Rattle.std.proofs.Common.{◌≡◌, ◌^◌, min, Result, Ok, Err, IfOk, IfErr, Some, sym, ap, ◌∙◌, arith}
 use Rattle.std.proofs.lemmas.Option.{none-some, same_Some}
 use Rattle.text_core.specs.declared.end.End.{End}
 use Rattle.text_core.specs.declared.end.End.TheVariants.{Bad, NoMemory}
@@ -8,6 +8,7 @@ use Rattle.moxi_sexpr.specs.Tree.{Trees, plain_forms}
 use Rattle.moxi_term_reading.specs.Failures.{least}
 use Rattle.moxi_scripts.specs.declared.script.Script.{Script}
 use Rattle.moxi_scripts.specs.Kinds.{HasScriptKind}
+use Rattle.moxi_declarations.specs.Sizes.{all_nodes}
 use Rattle.moxi_reading.specs.Answer.{IsFirstFailure, IsFirstOf, IsRefusal, IsScript}
 use Rattle.moxi_scripts.specs.Script.{PlainScript}
 use Rattle.moxi_scripts.specs.ScriptView.{plain_script}
@@ -50,6 +51,12 @@ returns-clause-refused c = c.script_in-script.ensures.refused
 
 pub script_in-script-requires-clause-printable : goal.script_in-script-requires-clause-printable
 script_in-script-requires-clause-printable c = c.requires
+
+pub script_in-script-requires-clause-few : goal.script_in-script-requires-clause-few
+script_in-script-requires-clause-few c =
+    let counted : c.count_nodes.result ≡ min (all_nodes (plain_forms c.args.forms.now.items)) (2 ^ 32) =
+    c.count_nodes.ensures ∙ ap (λ fs. min (all_nodes (plain_forms fs)) (2 ^ 32)) c.deref.ensures.value in
+    omega (arith, counted, c.if-count_nodes-eq-MANY.false)
 
 pub script_in-script-requires-clause-nothing : goal.script_in-script-requires-clause-nothing
 script_in-script-requires-clause-nothing c = c.nothing_read-draft.ensures

@@ -1,5 +1,0 @@
-use Rattle.moxi_lift.proofs.Steps.{count_none}
-use Rattle.moxi_lift.proofs.step.constant_count.Goals as goal
-
-pub returns-in-None : goal.returns-in-None
-returns-in-None c = count_none c.args.scope.now.enumerations c.args.n c.in-None.ensures
