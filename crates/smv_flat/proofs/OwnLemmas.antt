@@ -1,13 +1,15 @@
 -- The items of one instance among those of all.
-use Rattle.std.proofs.Common.{◌≡◌, ℕ, ◌+◌, ◌-◌, ◌<◌, ◌≤◌, List, ◌∷◌, ◌++◌, take, drop, length, map, sym, ap, ◌∙◌, append_assoc, arith}
+use Rattle.std.proofs.Common.{◌≡◌, ℕ, ◌+◌, ◌-◌, ◌^◌, ◌<◌, ◌≤◌, List, ◌∷◌, ◌++◌, take, drop, length, map, sym, ap, ◌∙◌, append_assoc, arith}
 use Rattle.std.specs.Prelude.{slice_index_or}
 use Rattle.std.proofs.lemmas.List.{take_all, drop-drop, length-drop, length-map, length-take-le}
+use Rattle.smv_meaning.specs.Instances.{Instance}
 use Rattle.smv_meaning.specs.Phases.{over_instances}
 use Rattle.smv_meaning.specs.laws.Lists.{front_is}
 use Rattle.smv_instances.specs.declared.instances.Instance.{Instance as PartOf}
 use Rattle.smv_instances.specs.View.{instance_plain}
 use Rattle.smv_items.specs.declared.origins.Origin.{Origin as StoredOrigin}
-use Rattle.smv_items.specs.FlatItems.{items_here}
+use Rattle.smv_items.specs.FlatItems.{items_here, origins_of, symbols_of}
+use Rattle.smv_items.specs.Counts.{AreFew}
 use Rattle.smv_items.specs.FlatOrigins.{origin_plain, own_count}
 use Rattle.smv_items.specs.laws.OriginLemmas.{own_front, own_passed}
 use Rattle.smv_flat.specs.FlatForms.{Form, forms_here, forms_from}
@@ -62,3 +64,24 @@ pub items_next : (t : List PartOf) (xs : List StoredOrigin) (i first count : ℕ
 items_next t xs i first count at h =
     ap (λ n. map origin_plain (drop (first + n) xs)) (length-take-le count (rest_of xs first) h.bound) ∙ ap (map origin_plain) (sym (drop-drop count first xs)) ∙ ap (λ l. map origin_plain (drop count l)) (sym (rest_is xs first))
     ∙ own_passed i count (instance_plain at) (map instance_plain (drop (i + 1) t)) (rest_of xs first) h.counted (items_are t xs i first count at h)
+
+-- ---- how many there are
+
+pub few_instances : (t : List PartOf) → AreFew (map instance_plain t) → length t < 2 ^ 32
+few_instances t h =
+    let l = length-map t instance_plain in
+    let n = h.instances in
+    omega (arith, l, n)
+
+pub few_origins : (t : List Instance) (xs : List StoredOrigin) → AreFew t → map origin_plain xs ≡ origins_of t → length xs < 2 ^ 32
+few_origins t xs h e =
+    let l = length-map xs origin_plain in
+    let m = ap length e in
+    let n = h.items in
+    omega (arith, l, m, n)
+
+pub few_symbols : (t : List Instance) (names : List (List ℕ)) → AreFew t → names ≡ symbols_of t → length names < 2 ^ 32
+few_symbols t names h e =
+    let m = ap length e in
+    let n = h.symbols in
+    omega (arith, m, n)

@@ -1,5 +1,5 @@
 // The context in which the expressions of a model are read.
-ghost use Rattle.std.specs.Prelude.{◌≡◌, ℕ, List, Option, map, IfOk};
+ghost use Rattle.std.specs.Prelude.{◌≡◌, ◌<◌, ◌^◌, ℕ, List, Option, length, map, IfOk};
 ghost use Rattle.std.specs.Coded.{Coded, Coded-set, codes, Π_prop};
 ghost use Rattle.smv_text.specs.declared.tree.VarKind.TheVariants as OfVarKind;
 ghost use Rattle.smv_instances.specs.View.{instance_plain, found_plain};
@@ -24,6 +24,9 @@ pub(crate) struct Context<'s, 'a, 'n, N> {
     ghost inputs: { AreVariables (map instance_plain table.now) OfVarKind.Input (origins_of (map instance_plain table.now)) numbers.now.paths.inputs } by { let number : Coded (Option ℕ) = Prim.hlevel codes in Π_prop (λ x. Coded-set number _ _) },
     ghost variables: { AreInstanceNumbers (map instance_plain table.now) numbers.now.paths numbers.now.variables } by { let number : Coded (Option ℕ) = Prim.hlevel codes in Π_prop (λ is_input. Π_prop (λ i. Π_prop (λ x. Coded-set number _ _))) },
     ghost all_symbols: { symbols.now ≡ symbols_of (map instance_plain table.now) } by { let texts : Coded (List (List ℕ)) = Prim.hlevel codes in Coded-set texts _ _ },
+    ghost few_instances: { length table.now < 2 ^ 32 },
+    ghost few_items: { length (origins_of (map instance_plain table.now)) < 2 ^ 32 },
+    ghost few_symbols: { length symbols.now < 2 ^ 32 },
 }
 
 impl<'s, 'a, 'n, N> Context<'s, 'a, 'n, N> {

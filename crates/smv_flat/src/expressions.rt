@@ -32,7 +32,7 @@ pub enum FlatShape {
     Chain(Box<FlatExpr>, FlatLinks),
     Choice(FlatBranches, Box<FlatExpr>),
     Case(FlatBranches),
-    Select(Box<FlatExpr>, u32, u32),
+    Select(Box<FlatExpr>, u64, u64),
     Call(Function, FlatExprs),
     Set(FlatExprs),
     Range(i64, i64),

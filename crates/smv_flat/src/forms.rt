@@ -32,7 +32,7 @@ pub struct FlatFormula {
 /// instance in which the expression is read.
 #[derive(Clone, Copy)]
 pub struct SourceFormula<'a> {
-    pub instance: usize,
+    pub instance: u32,
     pub role: Role,
     pub reader: usize,
     pub body: &'a Expr,

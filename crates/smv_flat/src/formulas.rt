@@ -5,6 +5,7 @@ ghost use Rattle.smv_meaning.specs.Phases.{in_assignment};
 ghost use Rattle.smv_instances.specs.View.{instance_plain};
 ghost use Rattle.smv_types.specs.View.{position_seen};
 ghost use Rattle.smv_items.specs.FlatItems.{origins_of, symbols_of, items_here, leaf_in};
+ghost use Rattle.smv_items.specs.Counts.{AreFew};
 ghost use Rattle.smv_items.specs.FlatOrigins.{origin_plain, content_plain, AreNumbers};
 ghost use Rattle.smv_flat.specs.FlatForms.{content_form, body_forms, number_or_first, assignment_form, element_forms, forms_here, forms_of};
 ghost use Rattle.smv_flat.specs.FlatFormulas.{form_plain, form_of};
@@ -21,16 +22,6 @@ use smv_types::{Permissions, Position};
 use std::alloc::Global;
 use text_core::NoMemory;
 
-// No accepted model has a number of more than 32 bits here.
-fn small(n: usize) -> Result<u32, NoMemory>
-    ensures { IfOk result (λ m. m ≡ n) }
-{
-    match u32::try_from(n) {
-        Ok(m) => Ok(m),
-        Err(_) => Err(NoMemory),
-    }
-}
-
 // The flat form of a formula of the model.
 fn formula<'s, 'a, 'n, N: Naming>(
     alloc: Global,
@@ -40,11 +31,10 @@ fn formula<'s, 'a, 'n, N: Naming>(
     requires model { N.instances context.now.naming.now ≡ map instance_plain context.now.table.now }
     ensures { IfOk result (λ f. form_plain f ≡ form_of (map instance_plain context.now.table.now) source.entry) }
 {
-    let instance = small(source.instance)?;
     let at = Permissions::of(source.position);
     let x = flat(alloc, context, source.reader, source.body, at, false)?;
     Ok(FlatFormula {
-        instance,
+        instance: source.instance,
         role: source.role,
         body: x.expr,
     })
@@ -71,13 +61,13 @@ fn add<'s, 'a, 'n, N: Naming>(
 }
 
 // A formula that is read in its own instance.
-fn read_here<'a>(i: usize, role: Role, body: &'a Expr, position: Position) -> SourceFormula<'a>
+fn read_here<'a>(i: u32, role: Role, body: &'a Expr, position: Position) -> SourceFormula<'a>
     ensures { result ≡ record { instance = i; role = role; reader = i; body = body.entry; position = position } }
 {
     SourceFormula {
         instance: i,
         role,
-        reader: i,
+        reader: i as usize,
         body,
         position,
     }
@@ -92,6 +82,7 @@ fn add_body<'s, 'a, 'n, N: Naming>(
     origin: &Origin<'a>,
 ) -> Result<(), NoMemory>
     requires model { N.instances context.now.naming.now ≡ map instance_plain context.now.table.now }
+    requires small { k < 2 ^ 32 }
     ensures { OnOk result (map form_plain forms.new.items ≡ map form_plain forms.old.items ++ content_form (map instance_plain context.now.table.now) k origin.now.instance (content_plain origin.now.content)) }
 {
     let instance = origin.instance;
@@ -100,7 +91,7 @@ fn add_body<'s, 'a, 'n, N: Naming>(
         Content::Definition(reader, body) => {
             let source = SourceFormula {
                 instance,
-                role: Role::Body(small(k)?),
+                role: Role::Body(k as u32),
                 reader,
                 body,
                 position: Position::Define,
@@ -110,7 +101,7 @@ fn add_body<'s, 'a, 'n, N: Naming>(
         Content::Actual(reader, body) => {
             let source = SourceFormula {
                 instance,
-                role: Role::Body(small(k)?),
+                role: Role::Body(k as u32),
                 reader,
                 body,
                 position: Position::Actual,
@@ -129,7 +120,7 @@ fn add_bodies<'s, 'a, 'n, N: Naming>(
     own: &[Origin<'a>],
 ) -> Result<(), NoMemory>
     requires model { N.instances context.now.naming.now ≡ map instance_plain context.now.table.now }
-    requires room { first + length own.now < 2 ^ 64 }
+    requires room { first + length own.now < 2 ^ 32 }
     ensures { OnOk result (map form_plain forms.new.items ≡ map form_plain forms.old.items ++ body_forms (map instance_plain context.now.table.now) first (map origin_plain own.now)) }
 {
     let mut number = first;
@@ -155,7 +146,7 @@ fn add_assignment<'s, 'a, 'n, N: Naming>(
     alloc: Global,
     context: &Context<'s, 'a, 'n, N>,
     forms: &mut Vec<FlatFormula>,
-    i: usize,
+    i: u32,
     assignment: &'a Assignment,
     number: u32,
 ) -> Result<(), NoMemory>
@@ -173,7 +164,7 @@ fn add_assignments<'s, 'a, 'n, N: Naming>(
     alloc: Global,
     context: &Context<'s, 'a, 'n, N>,
     forms: &mut Vec<FlatFormula>,
-    i: usize,
+    i: u32,
     assignments: &'a Assignments,
 ) -> Result<(), NoMemory>
     requires model { N.instances context.now.naming.now ≡ map instance_plain context.now.table.now }
@@ -182,7 +173,7 @@ fn add_assignments<'s, 'a, 'n, N: Naming>(
     let mut last: Option<Numbered<'a>> = None;
     for assignment in assignments {
         let path = &assignment.target;
-        let number = number_behind(alloc, context, i, path, last)?;
+        let number = number_behind(alloc, context, i as usize, path, last)?;
         add_assignment(alloc, context, forms, i, assignment, number)?;
         last = Some(Numbered { path, number });
     }
@@ -193,7 +184,7 @@ fn add_element<'s, 'a, 'n, N: Naming>(
     alloc: Global,
     context: &Context<'s, 'a, 'n, N>,
     forms: &mut Vec<FlatFormula>,
-    i: usize,
+    i: u32,
     element: &'a Element,
 ) -> Result<(), NoMemory>
     requires model { N.instances context.now.naming.now ≡ map instance_plain context.now.table.now }
@@ -227,7 +218,7 @@ fn add_elements<'s, 'a, 'n, N: Naming>(
     alloc: Global,
     context: &Context<'s, 'a, 'n, N>,
     forms: &mut Vec<FlatFormula>,
-    i: usize,
+    i: u32,
     elements: &'a Elements,
 ) -> Result<(), NoMemory>
     requires model { N.instances context.now.naming.now ≡ map instance_plain context.now.table.now }
@@ -245,13 +236,13 @@ fn add_instance<'s, 'a, 'n, N: Naming>(
     context: &Context<'s, 'a, 'n, N>,
     forms: &mut Vec<FlatFormula>,
     first: usize,
-    i: usize,
+    i: u32,
     at: &Instance<'a>,
     own: &[Origin<'a>],
 ) -> Result<(), NoMemory>
     requires model { N.instances context.now.naming.now ≡ map instance_plain context.now.table.now }
     requires own { map origin_plain own.now ≡ items_here i (instance_plain at.now) }
-    requires room { first + length own.now < 2 ^ 64 }
+    requires room { first + length own.now < 2 ^ 32 }
     ensures { OnOk result (map form_plain forms.new.items ≡ map form_plain forms.old.items ++ forms_here (map instance_plain context.now.table.now) first i (instance_plain at.now)) }
 {
     let module = at.module;
@@ -268,6 +259,7 @@ fn all_formulas<'s, 'a, 'n, N: Naming>(
 ) -> Result<Vec<FlatFormula>, NoMemory>
     requires model { N.instances context.now.naming.now ≡ map instance_plain context.now.table.now }
     requires origins { map origin_plain origins.now ≡ origins_of (map instance_plain context.now.table.now) }
+    requires few { length origins.now < 2 ^ 32 }
     ensures { IfOk result (λ fs. map form_plain fs.items ≡ forms_of (map instance_plain context.now.table.now)) }
 {
     let mut forms = Vec::new(alloc);
@@ -280,7 +272,7 @@ fn all_formulas<'s, 'a, 'n, N: Naming>(
             context,
             &mut forms,
             first,
-            i,
+            i as u32,
             context.table.at(i),
             own,
         )?;
@@ -293,6 +285,7 @@ fn all_formulas<'s, 'a, 'n, N: Naming>(
 ///
 /// Instances come in preorder. In each, the bodies of its items come first, then assignments and sections in the order
 /// of the text.
+#[tactic(auto, using(crate::proofs::OwnLemmas::few_instances, crate::proofs::OwnLemmas::few_origins, crate::proofs::OwnLemmas::few_symbols))]
 pub fn formulas_in<'a, 'n, N: Naming>(
     alloc: Global,
     names: &N,
@@ -305,6 +298,7 @@ pub fn formulas_in<'a, 'n, N: Naming>(
     requires origins { map origin_plain origins.now ≡ origins_of (map instance_plain table.now) }
     requires numbers { AreNumbers (map instance_plain table.now) (origins_of (map instance_plain table.now)) numbers.now }
     requires symbols { symbols.now ≡ symbols_of (map instance_plain table.now) }
+    requires few { AreFew (map instance_plain table.now) }
     ensures { IfOk result (λ fs. map form_plain fs.items ≡ forms_of (map instance_plain table.now)) }
 {
     let context = Context {

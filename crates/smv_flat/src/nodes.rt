@@ -60,16 +60,6 @@ fn boxed(alloc: Global, expr: FlatExpr) -> Result<Box<FlatExpr>, NoMemory>
     Ok(Box::new(alloc, expr)?)
 }
 
-// No accepted model has a value of more than 32 bits here.
-fn small(n: u64) -> Result<u32, NoMemory>
-    ensures { IfOk result (λ m. m ≡ n) }
-{
-    match u32::try_from(n) {
-        Ok(m) => Ok(m),
-        Err(_) => Err(NoMemory),
-    }
-}
-
 // A flat set stores no type.
 fn type_unless_set(is_set: bool, ty: Option<Ty>) -> Option<Ty>
     ensures { option_map seen result ≡ unless_set is_set (option_map seen ty) }
@@ -109,7 +99,7 @@ pub fn selected(
 {
     let ty = select_type(place, operand.ty, high, low);
     let inner = boxed(alloc, operand.expr)?;
-    let shape = FlatShape::Select(inner, small(high)?, small(low)?);
+    let shape = FlatShape::Select(inner, high, low);
     Ok(Typed {
         expr: FlatExpr { ty, shape },
         ty,

@@ -1,10 +1,11 @@
 -- The first place of an item in a list that grows.
-use Rattle.std.proofs.Common.{◌≡◌, ℕ, zero, suc, get_or, ◌+◌, ◌<◌, ◌≤◌, ◌==◌, Bool, true, false, ◌&&◌, if◌then◌else◌, List, [], ◌∷◌, ◌++◌, map, take, length, position, Option, Some, None, is_none, not, Result, Ok, Err, OnOk, bytes_eq, refl, sym, ap, ◌∙◌, subst, arith}
+use Rattle.std.proofs.Common.{◌≡◌, ℕ, zero, suc, get_or, ◌+◌, ◌<◌, ◌≤◌, ◌^◌, ◌==◌, Bool, true, false, ◌&&◌, if◌then◌else◌, List, [], ◌∷◌, ◌++◌, map, take, length, position, Option, Some, None, is_none, not, Result, Ok, Err, OnOk, IfSome, bytes_eq, refl, sym, ap, ◌∙◌, subst, arith}
 use Rattle.std.specs.Prelude.{slice_index_or}
 use Rattle.std.proofs.lemmas.List.{length-map, map-append, length-take-le, take_all}
 use Rattle.std.proofs.Math.Numerals.{add-one}
 use Rattle.std.proofs.Math.Seq.{take-suc}
 use Rattle.std.proofs.lemmas.Bool.{eqb-true}
+use Rattle.std.proofs.lemmas.List.Quantifiers.{position-Some}
 use Rattle.std.proofs.lemmas.Slice.Eq.{bytes_eq-Decides}
 use Rattle.std.specs.Option.{option_or}
 use Rattle.smv_text.specs.declared.tree.VarKind.{VarKind}
@@ -137,3 +138,24 @@ number_kept_more t old new was now o p b k n v ep noted en ev h w =
 pub on_ok : {A B : Type 0} {X E : Type 0} (r : Result X E) → (A → B) → OnOk r A → OnOk r B
 on_ok (Ok x) f a = f a
 on_ok (Err e) f a = tt
+
+-- ---- numbers are places in lists
+
+place_below : {X : Type 0} (p : X → Bool) (xs : List X) (n : ℕ) → position p xs ≡ Some n → n < length xs
+place_below p [] n e = cc
+place_below p (x ∷ xs) n e = (position-Some p (x ∷ xs) n x e).0
+
+place_few : {X : Type 0} (p : X → Bool) (xs : List X) (k : Option ℕ) → length xs < 2 ^ 32 → k ≡ position p xs → IfSome k (λ n. n < 2 ^ 32)
+place_few p xs None h e = tt
+place_few p xs (Some n) h e = let b = place_below p xs n (sym e) in omega (arith, b, h)
+
+pub variable_few : (t : List Instance) (ns : PathNumbers) → ArePathNumbers t (origins_of t) ns → length (origins_of t) < 2 ^ 32 → (is_input : Bool) (y : List ℕ) (k : Option ℕ) → k ≡ path_number ns is_input y
+    → IfSome k (λ n. n < 2 ^ 32)
+variable_few t ns h few true y k e = place_few (λ o. is_variable_as OfVarKind.Input o.content && bytes_eq (path_of t o) y) (origins_of t) k few (e ∙ h.inputs y)
+variable_few t ns h few false y k e = place_few (λ o. is_variable_as OfVarKind.State o.content && bytes_eq (path_of t o) y) (origins_of t) k few (e ∙ h.states y)
+
+pub body_few : (t : List Instance) (ms : InstanceRows ℕ) → AreBodies (origins_of t) ms → length (origins_of t) < 2 ^ 32 → (i : ℕ) (x : List ℕ) (k : Option ℕ) → k ≡ row_in ms i x → IfSome k (λ n. n < 2 ^ 32)
+body_few t ms h few i x k e = place_few (is_body_at i x) (origins_of t) k few (e ∙ h i x)
+
+pub symbol_few : (names : List (List ℕ)) → length names < 2 ^ 32 → (x : List ℕ) (k : Option ℕ) → k ≡ position (bytes_eq x) names → IfSome k (λ n. n < 2 ^ 32)
+symbol_few names few x k e = place_few (bytes_eq x) names k few e

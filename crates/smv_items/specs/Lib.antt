@@ -1,4 +1,5 @@
 pub mod FlatItems
 pub mod FlatOrigins
 pub mod FlatItemView
+pub mod Counts
 pub mod laws

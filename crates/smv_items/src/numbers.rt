@@ -1,5 +1,5 @@
 // The numbers of a model's items and symbols, and the leaves that paths translate to.
-ghost use Rattle.std.specs.Prelude.{◌≡◌, true, length, [], List, Some, map, OnOk, IfOk};
+ghost use Rattle.std.specs.Prelude.{◌≡◌, ◌<◌, ◌^◌, true, length, [], List, Some, map, OnOk, IfOk, IfSome};
 ghost use Rattle.smv_text.specs.declared.tree.VarKind.TheVariants as OfVarKind;
 ghost use Rattle.smv_meaning.specs.Instances.{Instance as Specified};
 ghost use Rattle.smv_meaning.specs.Meaning.{is_input};
@@ -133,7 +133,12 @@ fn note_variable<'a, 'n>(
     ensures kept { (t : List Specified) → path.now ≡ path_of t (origin_plain origin.now) → AreInstanceNumbers t paths.old variables.old → OnOk result (AreInstanceNumbers t paths.new variables.new) }
 {
     let n = note_path(paths, kind, path, k)?;
-    add_row_in(variables, origin.instance, origin.name, number_as(kind, n))
+    add_row_in(
+        variables,
+        origin.instance as usize,
+        origin.name,
+        number_as(kind, n),
+    )
 }
 
 // Stores item k, which has this dotted path.
@@ -155,10 +160,20 @@ fn note_item<'a, 'n>(
             k,
         ),
         Content::Definition(_, _) => {
-            add_first_in(&mut numbers.bodies, origin.instance, origin.name, k)
+            add_first_in(
+                &mut numbers.bodies,
+                origin.instance as usize,
+                origin.name,
+                k,
+            )
         }
         Content::Actual(_, _) => {
-            add_first_in(&mut numbers.bodies, origin.instance, origin.name, k)
+            add_first_in(
+                &mut numbers.bodies,
+                origin.instance as usize,
+                origin.name,
+                k,
+            )
         }
     }
 }
@@ -217,7 +232,7 @@ pub fn paths_of<'a>(
 {
     let mut paths = Vec::new(alloc);
     for origin in origins {
-        let path = dotted_path(alloc, table, origin.instance, origin.name)?;
+        let path = dotted_path(alloc, table, origin.instance as usize, origin.name)?;
         paths.push(path)?;
     }
     Ok(paths)
@@ -247,28 +262,23 @@ pub enum Leaf {
     Nothing,
 }
 
-// No model has more items or symbols than 32 bits can number.
-fn item(k: Option<usize>) -> Result<Leaf, NoMemory>
-    ensures { IfOk result (λ l. leaf_plain l ≡ item_leaf k) }
+fn item(k: Option<usize>) -> Leaf
+    requires { IfSome k (λ n. n < 2 ^ 32) }
+    ensures { leaf_plain result ≡ item_leaf k }
 {
     match k {
-        None => Ok(Leaf::Nothing),
-        Some(k) => match u32::try_from(k) {
-            Ok(k) => Ok(Leaf::Item(k)),
-            Err(_) => Err(NoMemory),
-        },
+        None => Leaf::Nothing,
+        Some(k) => Leaf::Item(k as u32),
     }
 }
 
-fn symbol(k: Option<usize>) -> Result<Leaf, NoMemory>
-    ensures { IfOk result (λ l. leaf_plain l ≡ symbol_leaf k) }
+fn symbol(k: Option<usize>) -> Leaf
+    requires { IfSome k (λ n. n < 2 ^ 32) }
+    ensures { leaf_plain result ≡ symbol_leaf k }
 {
     match k {
-        None => Ok(Leaf::Nothing),
-        Some(k) => match u32::try_from(k) {
-            Ok(k) => Ok(Leaf::Symbol(k)),
-            Err(_) => Err(NoMemory),
-        },
+        None => Leaf::Nothing,
+        Some(k) => Leaf::Symbol(k as u32),
     }
 }
 
@@ -294,6 +304,7 @@ fn variable_number<'a>(
 }
 
 /// Returns the translation of a path with this target.
+#[tactic(auto, using(crate::proofs::NumberLemmas::variable_few, crate::proofs::NumberLemmas::body_few, crate::proofs::NumberLemmas::symbol_few))]
 pub fn leaf_of<'a, 'n>(
     alloc: Global,
     table: &Table<'a>,
@@ -303,16 +314,18 @@ pub fn leaf_of<'a, 'n>(
 ) -> Result<Leaf, NoMemory>
     requires numbers { AreNumbers (map instance_plain table.now) (origins_of (map instance_plain table.now)) numbers.now }
     requires symbols { symbols.now ≡ symbols_of (map instance_plain table.now) }
+    requires few_items { length (origins_of (map instance_plain table.now)) < 2 ^ 32 }
+    requires few_symbols { length symbols.now < 2 ^ 32 }
     ensures { IfOk result (λ l. leaf_plain l ≡ leaf_found (map instance_plain table.now) (found_plain (map instance_plain table.now) target.entry)) }
 {
     match target {
         Target::Variable(j, x, kind, _) => {
             let number = variable_number(alloc, table, numbers, j, x, kind)?;
-            item(number)
+            Ok(item(number))
         }
-        Target::Body(j, x, _, _) => item(row_value_in(&numbers.bodies, j, x)),
+        Target::Body(j, x, _, _) => Ok(item(row_value_in(&numbers.bodies, j, x))),
         Target::Instance(_) => Ok(Leaf::Nothing),
-        Target::Symbol(x) => symbol(symbols.place(x)),
+        Target::Symbol(x) => Ok(symbol(symbols.place(x))),
         Target::Cyclic => Ok(Leaf::Nothing),
         Target::Missing => Ok(Leaf::Nothing),
     }

@@ -1,5 +1,5 @@
 // The declarations that the items of a model come from, in order.
-ghost use Rattle.std.specs.Prelude.{◌≡◌, ◌≤◌, ◌++◌, [], length, map, flat_map, OnOk, IfOk};
+ghost use Rattle.std.specs.Prelude.{◌≡◌, ◌≤◌, ◌<◌, ◌^◌, ◌++◌, [], length, map, flat_map, OnOk, IfOk};
 ghost use Rattle.smv_text.specs.Tree.{trees_of};
 ghost use Rattle.smv_text.specs.View.{plain, plain_item, plain_definition, plain_element, plain_domain};
 ghost use Rattle.smv_meaning.specs.Names.{dotted_at};
@@ -23,7 +23,7 @@ pub enum Content<'a> {
 /// An item: its instance, its name there, and its content.
 #[derive(Clone, Copy)]
 pub struct Origin<'a> {
-    pub instance: usize,
+    pub instance: u32,
     pub name: &'a [u8],
     pub content: Content<'a>,
 }
@@ -34,7 +34,7 @@ pub type Origins<'a> = Vec<Origin<'a>>;
 // Adds an item, if there is one.
 fn add<'a>(
     origins: &mut Origins<'a>,
-    instance: usize,
+    instance: u32,
     name: &'a [u8],
     content: Option<Content<'a>>,
 ) -> Result<(), NoMemory>
@@ -75,7 +75,7 @@ fn variable<'a>(kind: VarKind, d: &'a Domain) -> Option<Content<'a>>
 #[tactic(auto, using(smv_meaning::specs::laws::Lists::front_is, smv_meaning::specs::laws::Lists::end_is, smv_meaning::specs::laws::Lists::trees_front, smv_meaning::specs::laws::Lists::trees_end, crate::specs::laws::OriginLemmas::append_none, crate::specs::laws::OriginLemmas::none_actual))]
 fn add_actuals<'a>(
     origins: &mut Origins<'a>,
-    i: usize,
+    i: u32,
     parent: usize,
     parameters: &'a Parameters,
     actuals: &'a [Expr],
@@ -98,7 +98,7 @@ fn add_actuals<'a>(
 
 fn add_variables<'a>(
     origins: &mut Origins<'a>,
-    i: usize,
+    i: u32,
     kind: VarKind,
     items: &'a Items,
 ) -> Result<(), NoMemory>
@@ -112,7 +112,7 @@ fn add_variables<'a>(
 
 fn add_definitions<'a>(
     origins: &mut Origins<'a>,
-    i: usize,
+    i: u32,
     definitions: &'a Definitions,
 ) -> Result<(), NoMemory>
     ensures { OnOk result (map origin_plain origins.new.items ≡ map origin_plain origins.old.items ++ map (definition_item i) (map plain_definition definitions.now)) }
@@ -122,17 +122,13 @@ fn add_definitions<'a>(
             origins,
             i,
             definition.name.bytes(),
-            Some(Content::Definition(i, &definition.body)),
+            Some(Content::Definition(i as usize, &definition.body)),
         )?;
     }
     Ok(())
 }
 
-fn add_element<'a>(
-    origins: &mut Origins<'a>,
-    i: usize,
-    element: &'a Element,
-) -> Result<(), NoMemory>
+fn add_element<'a>(origins: &mut Origins<'a>, i: u32, element: &'a Element) -> Result<(), NoMemory>
     ensures { OnOk result (map origin_plain origins.new.items ≡ map origin_plain origins.old.items ++ element_items i (plain_element element.now)) }
 {
     match element {
@@ -149,7 +145,7 @@ fn add_element<'a>(
 
 fn add_elements<'a>(
     origins: &mut Origins<'a>,
-    i: usize,
+    i: u32,
     elements: &'a Elements,
 ) -> Result<(), NoMemory>
     ensures { OnOk result (map origin_plain origins.new.items ≡ map origin_plain origins.old.items ++ flat_map (element_items i) (map plain_element elements.now)) }
@@ -161,7 +157,7 @@ fn add_elements<'a>(
 }
 
 // Appends the items of the instance with this number.
-fn put_origins<'a>(origins: &mut Origins<'a>, i: usize, at: &Instance<'a>) -> Result<(), NoMemory>
+fn put_origins<'a>(origins: &mut Origins<'a>, i: u32, at: &Instance<'a>) -> Result<(), NoMemory>
     ensures { OnOk result (map origin_plain origins.new.items ≡ map origin_plain origins.old.items ++ items_here i (instance_plain at.now)) }
 {
     let module = at.module;
@@ -178,11 +174,12 @@ fn put_origins<'a>(origins: &mut Origins<'a>, i: usize, at: &Instance<'a>) -> Re
 /// Returns the origins of a model's items, in order.
 #[tactic(auto, using(smv_meaning::specs::laws::Lists::front_is, smv_meaning::specs::laws::Lists::end_is, crate::specs::laws::OriginLemmas::joined_on))]
 pub fn origins_in<'a>(alloc: Global, table: &Table<'a>) -> Result<Origins<'a>, NoMemory>
+    requires few { length table.now < 2 ^ 32 }
     ensures { IfOk result (λ os. map origin_plain os.items ≡ origins_of (map instance_plain table.now)) }
 {
     let mut origins = Vec::new(alloc);
     for i in 0..table.len() {
-        put_origins(&mut origins, i, table.at(i))?;
+        put_origins(&mut origins, i as u32, table.at(i))?;
     }
     Ok(origins)
 }
@@ -194,7 +191,7 @@ pub fn own_count(origins: &[Origin], i: usize) -> usize
     ensures own { result ≡ own_count i (map origin_plain origins.now) }
 {
     for k in 0..origins.len() {
-        if origins[k].instance != i {
+        if origins[k].instance as usize != i {
             return k;
         }
     }

@@ -19,7 +19,8 @@ add_instance-requires-clause-room g c =
     within_next t c.args.origins.now c.loop-i.i c.loop-i.first c.own_count.result c.at.result.now
     (here t c.args.origins.now c.loop-i.i c.loop-i.first c.own_count.result c.len-i-end.result c.at.result.now c.len-i-end.ensures c.loop-i-test.true c.at.ensures c.loop-i.invariant.within c.own_count.ensures.bound c.own_count.ensures.own
     c.loop-i.invariant.items) in
-    omega (arith, w)
+    let few = c.requires.few in
+    omega (arith, w, few)
 
 pub loop-i-preserved : goal.loop-i-preserved
 loop-i-preserved g c =

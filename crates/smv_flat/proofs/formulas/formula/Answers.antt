@@ -1,4 +1,4 @@
-use Rattle.std.proofs.Common.{map}
+use Rattle.std.proofs.Common.{map, refl}
 use Rattle.smv_text.specs.View.{plain}
 use Rattle.smv_instances.specs.View.{instance_plain}
 use Rattle.smv_types.specs.View.{permissions_seen, position_seen}
@@ -8,5 +8,5 @@ use Rattle.smv_flat.proofs.formulas.formula.Goals as goal
 
 pub returns : goal.returns
 returns g c =
-    form_made (map instance_plain c.args.context.now.table.now) c.args.source.reader c.in_ok-instance.instance c.args.source.instance c.args.source.role (permissions_seen c.of-at.result) (position_seen c.args.source.position)
-    (plain c.args.source.body.now) (plain_flat c.in_ok-x.x.expr) c.of-at.ensures c.in_ok-instance.ensures c.in_ok-x.ensures.expr
+    form_made (map instance_plain c.args.context.now.table.now) c.args.source.reader c.args.source.instance c.args.source.instance c.args.source.role (permissions_seen c.of-at.result) (position_seen c.args.source.position)
+    (plain c.args.source.body.now) (plain_flat c.in_ok-x.x.expr) c.of-at.ensures refl c.in_ok-x.ensures.expr
