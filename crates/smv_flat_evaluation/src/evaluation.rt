@@ -136,7 +136,7 @@ pub fn evaluate<'a>(
         FlatShape::Case(branches) => taken(symbols, branches.as_slice(), now, later),
         FlatShape::Select(a, high, low) => {
             let value = evaluate(symbols, a, now, later);
-            seen_of(selection(*high as u64, *low as u64, &value))
+            seen_of(selection(*high, *low, &value))
         }
         FlatShape::Call(f, arguments) => {
             seen_of(call_value(symbols, *f, arguments.as_slice(), now, later))

@@ -1,2 +1,3 @@
+pub mod InvariantLengths
 pub mod Lists
 pub mod Models

@@ -1,11 +1,12 @@
 // The flat form of a model that passes its checks.
-ghost use Rattle.std.specs.Prelude.{◌≡◌, ◌≤◌, map, length, sum_by, IfOk};
+ghost use Rattle.std.specs.Prelude.{◌≡◌, ◌≤◌, ◌<◌, ◌^◌, map, length, sum_by, IfOk};
 ghost use Rattle.smv_text.specs.View.{plain_source};
 ghost use Rattle.smv_meaning.specs.Instances.{instances_of, weight_of};
 ghost use Rattle.smv_meaning.specs.Phases.{checks_of, invariants_in, IsAccepted};
 ghost use Rattle.smv_instances.specs.View.{instance_plain};
 ghost use Rattle.smv_model_types.specs.Outcome.{AreTypesOf};
 ghost use Rattle.smv_items.specs.FlatItems.{origins_of, symbols_of, path_of, flat_item_of};
+ghost use Rattle.smv_items.specs.Counts.{AreFew};
 ghost use Rattle.smv_items.specs.FlatItemView.{item_plain};
 ghost use Rattle.smv_flat.specs.FlatForms.{forms_of, flat_of, flat_smv};
 ghost use Rattle.smv_flat.specs.FlatFormulas.{form_plain};
@@ -39,6 +40,7 @@ struct Sources<'a> {
 }
 
 fn sources_in<'a>(alloc: Global, table: &Table<'a>) -> Result<Sources<'a>, NoMemory>
+    requires few { length table.now < 2 ^ 32 }
     ensures origins { IfOk result (λ s. map origin_plain s.origins.items ≡ origins_of (map instance_plain table.now)) }
     ensures paths { IfOk result (λ s. s.paths.items ≡ map (path_of (map instance_plain table.now)) (map origin_plain s.origins.items)) }
     ensures symbols { IfOk result (λ s. s.symbols ≡ symbols_of (map instance_plain table.now)) }
@@ -67,6 +69,7 @@ fn flat_formulas<'a>(
     requires long { length paths.now ≡ length origins.now }
     requires paths { paths.now ≡ map (path_of (map instance_plain table.now)) (map origin_plain origins.now) }
     requires symbols { symbols.now ≡ symbols_of (map instance_plain table.now) }
+    requires few { AreFew (map instance_plain table.now) }
     ensures { IfOk result (λ fs. map form_plain fs.items ≡ forms_of (map instance_plain table.now)) }
 {
     let numbers = numbers_of(alloc, origins, paths)?;
@@ -92,6 +95,7 @@ fn contents_of<'a>(
     requires origins { map origin_plain sources.now.origins.items ≡ origins_of (map instance_plain table.now) }
     requires paths { sources.now.paths.items ≡ map (path_of (map instance_plain table.now)) (map origin_plain sources.now.origins.items) }
     requires symbols { sources.now.symbols ≡ symbols_of (map instance_plain table.now) }
+    requires few { AreFew (map instance_plain table.now) }
     ensures items { IfOk result (λ x. map item_plain x.items.items ≡ map (flat_item_of (map instance_plain table.now)) (origins_of (map instance_plain table.now))) }
     ensures formulas { IfOk result (λ x. map form_plain x.formulas.items ≡ forms_of (map instance_plain table.now)) }
     ensures width { IfOk result (λ x. x.width ≡ width_of (flat_of (map instance_plain table.now))) }
@@ -110,16 +114,18 @@ fn contents_of<'a>(
 }
 
 // The flat form of these instances.
+#[tactic(auto, using(crate::proofs::Models::few_instances))]
 fn flattened<'a>(alloc: Global, table: &Table<'a>, types: &Types<'a>) -> Result<Flat, NoMemory>
     requires typed { AreTypesOf (map instance_plain table.now) types.now }
     requires model { AreOfModel (map instance_plain table.now) }
+    requires few { AreFew (map instance_plain table.now) }
     ensures form { IfOk result (λ f. flat_plain f ≡ flat_of (map instance_plain table.now)) }
     ensures width { IfOk result (λ f. f.width ≡ width_of (flat_of (map instance_plain table.now))) }
     ensures weight { IfOk result (λ f. f.weight ≡ sum_by (λ at. at.module.tokens) (map instance_plain table.now)) }
     ensures invariants { IfOk result (λ f. f.invariants ≡ length (invariants_in (map instance_plain table.now))) }
 {
-    let weight = weight_in(table)?;
-    let invariants = invariant_count(table)?;
+    let weight = weight_in(table);
+    let invariants = invariant_count(table);
     let sources = sources_in(alloc, table)?;
     let symbols = sources.symbols.names(alloc)?;
     let contents = contents_of(alloc, table, types, &sources)?;
@@ -137,7 +143,7 @@ fn flattened<'a>(alloc: Global, table: &Table<'a>, types: &Types<'a>) -> Result<
 ///
 /// `needed` is the number of the invariant that the model must have, 0 where any will do. `Err` is the refusal of the
 /// first failing check, or out of memory.
-#[tactic(auto, using(crate::proofs::Models::are_of_model))]
+#[tactic(auto, using(crate::proofs::Models::are_of_model, crate::proofs::Models::are_few))]
 pub fn flatten(alloc: Global, source: &Source, needed: u32) -> Result<Flat, FlatEnd>
     // A text parses to the model, and none of its expressions is too high.
     requires read { IsRead (plain_source source.now) }

@@ -27,16 +27,6 @@ fn kind_of(content: &Content) -> ItemKind
     }
 }
 
-// No accepted model has more instances than 32 bits can number.
-fn small(n: usize) -> Result<u32, NoMemory>
-    ensures { IfOk result (λ m. m ≡ n) }
-{
-    match u32::try_from(n) {
-        Ok(m) => Ok(m),
-        Err(_) => Err(NoMemory),
-    }
-}
-
 // The item with this dotted path.
 fn flat_item<'a>(
     alloc: Global,
@@ -49,14 +39,13 @@ fn flat_item<'a>(
     requires path { path.now ≡ path_of (map instance_plain table.now) (origin_plain origin.now) }
     ensures { IfOk result (λ m. item_plain m ≡ flat_item_of (map instance_plain table.now) (origin_plain origin.now)) }
 {
-    let instance = small(origin.instance)?;
     let ty = item_type(alloc, table, types, &origin.content)?;
     let members = members_of(alloc, &origin.content)?;
     let name = path.duplicate(alloc)?;
     let kind = kind_of(&origin.content);
     Ok(FlatItem {
         name,
-        instance,
+        instance: origin.instance,
         kind,
         ty,
         members,

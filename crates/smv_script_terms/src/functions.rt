@@ -80,16 +80,17 @@ fn extended(alloc: Global, n: u32, a: Term) -> Result<Term, NoMemory>
 pub(crate) fn selected(
     alloc: Global,
     width: u32,
-    high: u32,
-    low: u32,
+    high: u64,
+    low: u64,
     a: Term,
 ) -> Result<Term, NoMemory>
     ensures { IfOk result (λ t. plain t ≡ selected_term width high low (plain a)) }
 {
-    if low == 0 && width > 0 && high == width - 1 {
+    if low == 0 && width > 0 && high == width as u64 - 1 {
         Ok(a)
     } else {
-        apply_one(alloc, TermOp::Extract(high, low), a)
+        let op = TermOp::Extract(small(high)?, small(low)?);
+        apply_one(alloc, op, a)
     }
 }
 
