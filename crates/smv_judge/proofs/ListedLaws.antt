@@ -46,9 +46,9 @@ items_apart flat source m =
 pub run_listed : (flat : PlainFlat) (source : PlainSource) → IsFlatOf source flat → (run : Run) (label : List Given) → label ≡ first_label flat.items → IsListedRun flat run → AllListed flat.items run.states run.labels label
 run_listed flat source m run label e r = record {
   apart = items_apart flat source m;
-  states = r.states;
-  labels = r.labels;
-  last = subst (λ (l : List Given). lists_label flat.items l ≡ true) (sym e) (label_listed flat.items);
+  in_states = r.states;
+  in_labels = r.labels;
+  in_last = subst (λ (l : List Given). lists_label flat.items l ≡ true) (sym e) (label_listed flat.items);
 }
 
 -- the first state under the last label, and a state under the last label
@@ -56,19 +56,19 @@ pub first_can : (flat : FlatParts) (order : RowOrder) (s : List Given) (states a
     → CanGive flat order s label
 first_can flat order s states all labels label e h = λ is.
     let a = subst (λ (ss : List (List Given)). AllListed (parts_plain flat).items ss labels label) e (h is) in
-    record { apart = a.apart; in_state = a.states.0; in_label = a.last }
+    record { apart = a.apart; in_state = a.in_states.0; in_label = a.in_last }
 
 -- the following state under the label that leads to it
 pub next_can : (flat : FlatParts) (order : RowOrder) (s u l last : List Given) (states us labels ls : List (List Given)) → states ≡ u ∷ us → labels ≡ l ∷ ls → (order.listed ≡ true → AllListed (parts_plain flat).items (s ∷ states) labels last)
     → CanGive flat order u l
 next_can flat order s u l last states us labels ls e f h = λ is.
     let a = subst (λ (xs : List (List Given)). AllListed (parts_plain flat).items (s ∷ u ∷ us) xs last) f (subst (λ (ss : List (List Given)). AllListed (parts_plain flat).items (s ∷ ss) labels last) e (h is)) in
-    record { apart = a.apart; in_state = a.states.1.0; in_label = a.labels.0 }
+    record { apart = a.apart; in_state = a.in_states.1.0; in_label = a.in_labels.0 }
 
 pub rest_listed : (items : List PlainFlatItem) (s u l last : List Given) (states us labels ls : List (List Given)) → states ≡ u ∷ us → labels ≡ l ∷ ls → AllListed items (s ∷ states) labels last → AllListed items (u ∷ us) ls last
 rest_listed items s u l last states us labels ls e f h =
     let a = subst (λ (xs : List (List Given)). AllListed items (s ∷ u ∷ us) xs last) f (subst (λ (ss : List (List Given)). AllListed items (s ∷ ss) labels last) e h) in
-    record { apart = a.apart; states = a.states.1; labels = a.labels.1; last = a.last }
+    record { apart = a.apart; in_states = a.in_states.1; in_labels = a.in_labels.1; in_last = a.in_last }
 
 pub states_are : (items : List PlainFlatItem) (states all behind labels : List (List Given)) (last : List Given) → all ≡ states → behind ≡ labels → AllListed items all labels last → AllListed items states behind last
 states_are items states all behind labels last e f h =

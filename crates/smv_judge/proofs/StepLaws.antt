@@ -181,6 +181,13 @@ none_said n (d ∷ cs) rest h = by d.1 h (λ k. none_said n cs rest k)
     by true e f = f e
     by false e f = cc
 
+-- a clause that fails at the first state is the verdict on the run
+pub first_refused : (source : PlainSource) (j : ℕ) (first : List Given) (following states labels : List (List Given)) (clause : Clause) → states ≡ first ∷ following
+    → Some clause ≡ failing (first_clauses (instances_of source) (given first)) → No 0 clause ≡ judged_smv source j (map given states) (map given labels)
+first_refused source j first following states labels clause e f =
+    some_said 0 (first_clauses (instances_of source) (given first)) (judged_after (instances_of source) j 0 (given first) (map given following) (map given labels)) clause f
+    ∙ ap (λ (xs : List (List Given)). judged_smv source j (map given xs) (map given labels)) (sym e)
+
 -- ---- accepted models
 
 pub none_refused : (cs : List Check) (r : Refusal) → passes cs ≡ true → first_failing cs ≡ Some r → ⊥

@@ -77,6 +77,6 @@ CanGive flat order state label = order.listed ≡ true → AreListed (parts_plai
 -- these states, their labels and the last label
 pub record AllListed (items : List PlainFlatItem) (states labels : List (List Given)) (last : List Given) : Type 0 where
   pub apart : AreDistinct (map (λ m. m.name) items)
-  pub states : AllByRecursion (λ s. lists_state items s ≡ true) states
-  pub labels : AllByRecursion (λ l. lists_label items l ≡ true) labels
-  pub last : lists_label items last ≡ true
+  pub in_states : AllByRecursion (λ s. lists_state items s ≡ true) states
+  pub in_labels : AllByRecursion (λ l. lists_label items l ≡ true) labels
+  pub in_last : lists_label items last ≡ true
