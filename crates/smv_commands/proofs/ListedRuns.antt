@@ -1,5 +1,5 @@
 -- A run that a trace states names its variables in the order of the items.
-use Rattle.std.proofs.Common.{◌≡◌, Bool, true, ◌&&◌, IsTrue, List, [], ◌∷◌, map, bytes_eq, refl, ap, ◌∙◌, sym}
+use Rattle.std.proofs.Common.{◌≡◌, ℕ, Bool, true, ◌&&◌, IsTrue, List, [], ◌∷◌, map, bytes_eq, refl, ap, ◌∙◌, sym}
 use Rattle.std.specs.List.{filter, list_all, AllByRecursion}
 use Rattle.smv_meaning.specs.declared.value.Given.{Given}
 use Rattle.smv_meaning.specs.declared.value.Run.{Run}
@@ -20,9 +20,9 @@ named_after symbols [] [] h = refl
 named_after symbols [] (g ∷ gs) h = absurd_bool h
 named_after symbols (m ∷ ms) [] h = absurd_bool h
 named_after symbols (m ∷ ms) (g ∷ gs) h =
-    let b = both_true (bytes_eq m.name g.name) (can_be_stated symbols m.type g.value && names_each symbols ms gs) h in
-    let c = both_true (can_be_stated symbols m.type g.value) (names_each symbols ms gs) b.1 in
-    two_true (bytes_eq m.name g.name) (are_named_after ms gs) b.0 (named_after symbols ms gs c.1)
+    let b = both_true (bytes_eq m.name g.name && can_be_stated symbols m.type g.value) (names_each symbols ms gs) h in
+    let c = both_true (bytes_eq m.name g.name) (can_be_stated symbols m.type g.value) b.0 in
+    two_true (bytes_eq m.name g.name) (are_named_after ms gs) c.0 (named_after symbols ms gs b.1)
 
 state_kinds : (k : ItemKind) → picks State k ≡ is_in_state k
 state_kinds kind.State = refl

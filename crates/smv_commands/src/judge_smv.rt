@@ -64,7 +64,7 @@ impl<'a> LastFile for JudgeTrace<'a> {
 }
 
 // The answer for the verdict on a run.
-#[tactic(auto, using(crate::proofs::ListedRuns::stated_listed, crate::proofs::TraceAnswers::has_flat, crate::proofs::TraceAnswers::said_yes, crate::proofs::TraceAnswers::said_no))]
+#[tactic(auto, using(crate::proofs::TraceAnswers::has_flat, crate::proofs::TraceAnswers::said_yes, crate::proofs::TraceAnswers::said_no))]
 fn run_answer(alloc: Global, flat: &Flat, j: u32, run: &Run) -> Result<Answer, Stop>
     requires model { (source : PlainSource) × IsFormOf source flat.now }
     requires few { length run.now.states < 2 ^ 32 }

@@ -143,7 +143,7 @@ fn flattened<'a>(alloc: Global, table: &Table<'a>, types: &Types<'a>) -> Result<
 ///
 /// `needed` is the number of the invariant that the model must have, 0 where any will do. `Err` is the refusal of the
 /// first failing check, or out of memory.
-#[tactic(auto, using(crate::proofs::Models::are_of_model, crate::proofs::Models::are_few))]
+#[tactic(auto, using(crate::proofs::Models::are_of_model))]
 pub fn flatten(alloc: Global, source: &Source, needed: u32) -> Result<Flat, FlatEnd>
     // A text parses to the model, and none of its expressions is too high.
     requires read { IsRead (plain_source source.now) }
