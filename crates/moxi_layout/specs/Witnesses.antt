@@ -16,13 +16,13 @@ use Rattle.moxi_flat.specs.FlatSystem.{PlainFlatSystem}
 use Rattle.moxi_layout.specs.LayoutLaws.{IsLaidOut, decoded_trace}
 
 -- a text spells the same witness for both, or has the same refusal
-pub record ReadAlike (lines other : List Line) : Type 0 where
+pub record ReadEqually (lines other : List Line) : Type 0 where
   pub sizes : sizes_of lines ≡ sizes_of other
   pub spelled : (text : List ℕ) (w : Witness) → SpellsWitness lines text w ↔ SpellsWitness other text w
   pub refused : (text : List ℕ) (kind : Kind) (at : ℕ) → RefusesWitness lines text kind at ↔ RefusesWitness other text kind at
 
 abbrev pub LayoutsAreReadEqually : Type 0
-LayoutsAreReadEqually = (f : PlainFlatSystem) (lines other : List Line) → IsLaidOut f lines → IsLaidOut f other → ReadAlike lines other
+LayoutsAreReadEqually = (f : PlainFlatSystem) (lines other : List Line) → IsLaidOut f lines → IsLaidOut f other → ReadEqually lines other
 
 -- each witness has the same verdict for both
 abbrev pub LayoutsAreJudgedEqually : Type 0

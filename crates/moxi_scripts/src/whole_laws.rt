@@ -5,7 +5,7 @@ ghost use Rattle.moxi_scripts.specs.Script.{PlainScript};
 ghost use Rattle.moxi_scripts.specs.Spelling.{SpellsScript};
 ghost use Rattle.moxi_scripts.specs.Valid.{HasRanks, IsValid};
 
-use moxi_term_print::{read_terms_stand, terms_stand_on};
+use moxi_term_print::{read_terms_are_well_scoped, terms_stay_well_scoped};
 use moxi_term_reading::{read_sorts_are_of_the_scope, read_terms_have_sorts};
 
 /// Proves that a script that forms spell is valid.
@@ -17,8 +17,8 @@ pub fn spelled_scripts_are_valid()
 {
     read_sorts_are_of_the_scope();
     read_terms_have_sorts();
-    read_terms_stand();
-    terms_stand_on();
+    read_terms_are_well_scoped();
+    terms_stay_well_scoped();
 }
 
 /// Proves that the systems of a valid script have ranks: each system ranks above the systems that it contains.

@@ -13,9 +13,9 @@ mod values;
 pub use declarations::{put_enumeration, put_function, put_named_sort, put_symbols};
 pub use laws::shown_is_read_back;
 pub use reading_laws::{
-    read_names_are_spellable, read_terms_are_read_again, read_terms_stand, scopes_grow,
+    read_names_are_spellable, read_terms_are_read_again, read_terms_are_well_scoped, scopes_grow,
     scopes_stay_spellable, shown_sorts_are_read, shown_terms_are_read, sort_names_differ,
-    standing_terms_can_be_shown, terms_stand_on,
+    terms_stay_well_scoped, well_scoped_terms_can_be_shown,
 };
 pub use sorts::{put_sort, put_variables};
 pub use terms::{push_variable_names, put_term, put_term_over};

@@ -30,7 +30,7 @@ pub fn shown_terms_are_read()
 /// it.
 ///
 /// The variables and bound names must have sorts.
-pub fn read_terms_stand()
+pub fn read_terms_are_well_scoped()
     ensures { (c : Context) (bounds : List Local) (vars ss : List Sort) (f : Form) → HaveKnownSorts c.variables vars → HaveKnownSorts bounds ss → (read c bounds f).failures ≡ [] → IsWellScopedReading c bounds (read c bounds f) }
 {}
 
@@ -52,7 +52,7 @@ pub fn read_terms_are_read_again()
 /// Proves that a term that is in a context still does after its scope has grown.
 ///
 /// The name of a sort also denotes the same sort.
-pub fn terms_stand_on()
+pub fn terms_stay_well_scoped()
     ensures terms { (c : Context) (bounds : List Local) (t : Tree) (s : Sort) (u : ScopeState) → IsWellScoped c bounds t s → Grows c.scope u → IsWellScoped (in_scope c u) bounds t s }
     ensures sorts { (s u : ScopeState) (sort : Sort) → IsSort s.enumerations sort → IsKnownSort s sort → Grows s u → IsKnownSort u sort }
 {}
@@ -78,7 +78,7 @@ pub fn read_names_are_spellable()
 /// Proves that a term that is in its context, and a sort whose name denotes it, can be shown.
 ///
 /// Their names must be ones that can be spelled.
-pub fn standing_terms_can_be_shown()
+pub fn well_scoped_terms_can_be_shown()
     ensures terms { (c : Context) (bounds : List Local) (t : Tree) (s : Sort) → IsSpellableScope c.scope → AreSpellable (names_of c.variables) → AreSpellable (names_of bounds) → IsWellScoped c bounds t s
         → NamesAreSpellable t → TermCanBeShown c bounds t }
     ensures sorts { (s : ScopeState) (sort : Sort) → IsSpellableScope s → IsKnownSort s sort → CanBeShown (shown_sort s sort) }

@@ -1,6 +1,6 @@
 use Rattle.moxi_term_print.proofs.StandingGrow.{stands_on}
 use Rattle.moxi_term_print.proofs.StandingScopes.{sort_stands_on}
-use Rattle.moxi_term_print.proofs.reading_laws.terms_stand_on.Goals as goal
+use Rattle.moxi_term_print.proofs.reading_laws.terms_stay_well_scoped.Goals as goal
 
 pub returns : goal.returns
 returns c = record {

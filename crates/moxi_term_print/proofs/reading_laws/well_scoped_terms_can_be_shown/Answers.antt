@@ -1,5 +1,5 @@
 use Rattle.moxi_term_print.proofs.StandingShown.{term_shown, sort_shown}
-use Rattle.moxi_term_print.proofs.reading_laws.standing_terms_can_be_shown.Goals as goal
+use Rattle.moxi_term_print.proofs.reading_laws.well_scoped_terms_can_be_shown.Goals as goal
 
 pub returns : goal.returns
 returns c = record {
