@@ -24,7 +24,7 @@ use Rattle.moxi_terms.specs.View.{ScopeState}
 use Rattle.moxi_term_print.specs.Declarations.{shown_enumeration, shown_function, shown_named_sort, shown_symbols}
 use Rattle.moxi_term_print.specs.Shown.{group, no_showns, shown, Shows, ShowEach}
 use Rattle.moxi_term_print.specs.WellScoped.{IsWellScoped}
-use Rattle.moxi_term_print.specs.StandingReads as standing
+use Rattle.moxi_term_print.specs.WellScopedReads as standing
 use Rattle.moxi_term_print.specs.Terms.{shown_sort, shown_term, shown_variables, variable_names}
 use Rattle.moxi_term_print.specs.laws.StandingShapes as shape
 use Rattle.moxi_scripts.specs.declared.parts.Declared.{Declared}

@@ -28,7 +28,7 @@ use Rattle.moxi_scripts.specs.QueryReading as query
 use Rattle.moxi_scripts.specs.Script.{PlainFormula}
 use Rattle.moxi_scripts.specs.Shapes.{parts_of}
 use Rattle.moxi_scripts.specs.Valid.{IsValidQuery, formula_names}
-use Rattle.moxi_scripts.specs.Whole as whole
+use Rattle.moxi_scripts.specs.Valid as whole
 use Rattle.moxi_script_print.proofs.AgainAttributes.{IsTail, attribute_forms, tail_end, tail_more}
 use Rattle.moxi_script_print.proofs.AgainLabels.{made_labels}
 use Rattle.moxi_script_print.proofs.AgainParts.{none_if}

@@ -95,7 +95,7 @@ fn ended<'a>(
     table: &Table<'a>,
     entries: &Entries<'a>,
     i: usize,
-    x: &'a [u8],
+    x: &[u8],
     known: Known<'a>,
 ) -> Named
     requires known { local_plain known ≡ local (map instance_plain table.now) i x.now }
@@ -112,7 +112,7 @@ fn alias<'a>(
     table: &Table<'a>,
     entries: &Entries<'a>,
     i: usize,
-    x: &'a [u8],
+    x: &[u8],
     known: Known<'a>,
 ) -> Named
     requires known { local_plain known ≡ local (map instance_plain table.now) i x.now }
@@ -132,7 +132,7 @@ fn single<'a>(
     table: &Table<'a>,
     entries: &Entries<'a>,
     i: usize,
-    x: &'a [u8],
+    x: &[u8],
     known: Known<'a>,
 ) -> Named
     requires known { local_plain known ≡ local (map instance_plain table.now) i x.now }
