@@ -3,3 +3,4 @@ pub mod Accepting
 pub mod Answering
 pub mod Forms
 pub mod OneAnswer
+pub mod ListedRuns

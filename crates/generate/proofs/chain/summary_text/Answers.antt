@@ -2,7 +2,7 @@ use Rattle.std.proofs.Common.{◌≡◌, true, map, sym, ap, ◌∙◌, subst}
 use Rattle.text_core.specs.declared.verdict.Verdict.TheVariants.{Yes}
 use Rattle.smv_text.specs.Tree.{PlainSource}
 use Rattle.smv_flatten.specs.FlatModel.{FlatModel, flat_plain}
-use Rattle.smv_judge.specs.Models.{IsFlatOf}
+use Rattle.smv_judge.specs.Models.{IsFlatOf, IsListedRun}
 use Rattle.smv_meaning.specs.declared.value.Run.{Run}
 use Rattle.smv_meaning.specs.Runs.{judged_smv}
 use Rattle.smv_meaning.specs.Values.{given}
@@ -13,6 +13,7 @@ use Rattle.generate.specs.Verdicts.{is_yes}
 use Rattle.generate.proofs.Accepting.{always_yes, no_both, yes_is}
 use Rattle.generate.proofs.Answering.{for_models, summarised}
 use Rattle.generate.proofs.Forms.{breaks_of, inputs_are, lifted_is, states_few}
+use Rattle.generate.proofs.ListedRuns.{lifted_listed}
 use Rattle.generate.proofs.chain.summary_text.Goals as goal
 
 pub says_yes-requires-clause-model : goal.says_yes-requires-clause-model
@@ -20,6 +21,10 @@ says_yes-requires-clause-model c = subst (λ (f : FlatModel). (source : PlainSou
 
 pub says_yes-requires-clause-few : goal.says_yes-requires-clause-few
 says_yes-requires-clause-few c = states_few c.args.chain.now c.args.witness.now c.args.run.now c.requires.run c.requires.few
+
+pub says_yes-requires-clause-listed : goal.says_yes-requires-clause-listed
+says_yes-requires-clause-listed c =
+    subst (λ (f : FlatModel). IsListedRun (flat_plain f) c.args.run.now) (sym c.flat.ensures) (lifted_listed c.args.chain.now c.args.witness.now c.args.run.now c.requires.run)
 
 pub unreachable-requires : goal.unreachable-requires
 unreachable-requires c =
