@@ -1,5 +1,5 @@
 -- Names: their places in lists, and what a scope declares by them.
-use Rattle.std.specs.Prelude.{ℕ, ◌+◌, ◌-◌, ◌^◌, nat_lt, suc, Bool, not, ◌&&◌, ◌||◌, if◌then◌else◌, Option, None, Some, is_some, option_and_then, List, [], ◌∷◌, ◌++◌, map, length, slice_get, slice_index_or, codes}
+use Rattle.std.specs.Prelude.{ℕ, ◌+◌, suc, Bool, not, ◌&&◌, ◌||◌, if◌then◌else◌, Option, None, Some, is_some, option_and_then, List, [], ◌∷◌, ◌++◌, map, length, slice_get, slice_index_or, codes}
 use Rattle.std.specs.Option.{option_map}
 use Rattle.std.specs.List.{list_any}
 use Rattle.std.specs.Str.{bytes_eq}
@@ -90,9 +90,3 @@ with_function s f = record s { functions = s.functions ++ f ∷ [] }
 -- nothing is declared
 abbrev pub no_scope : ScopeState
 no_scope = record { enumerations = []; sorts = []; functions = [] }
-
--- so many constants more, and one more of each other kind, can be numbered with 32 bits
-abbrev pub has_room : ScopeState → ℕ → Bool
-has_room s constants =
-    nat_lt (length s.enumerations) (2 ^ 32 - 1) && (nat_lt (length s.sorts) (2 ^ 32 - 1) && (nat_lt (length s.functions) (2 ^ 32 - 1)
-    && (nat_lt constants (2 ^ 32) && nat_lt (length (all_constants s.enumerations) + constants) (2 ^ 32))))

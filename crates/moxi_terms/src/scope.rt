@@ -2,7 +2,7 @@
 ghost use Rattle.std.specs.Prelude.{◌≡◌, ◌<◌, ◌≤◌, ◌^◌, ◌-◌, ◌+◌, ◌++◌, take, not, length, map, IfOk, OnOk, OnErr, Some, None, if◌then◌else◌, option_and_then, slice_get, IsTrue};
 ghost use Rattle.std.specs.List.{list_any};
 ghost use Rattle.std.specs.Option.{option_map};
-ghost use Rattle.moxi_terms.specs.Names.{all_constants, constant_count, constant_named, has_room, is_sort_name, is_term_name, may_be_enumeration, no_scope, numbered, or_else, function_names, sort_named, with_enumeration, with_function, with_sort};
+ghost use Rattle.moxi_terms.specs.Names.{all_constants, constant_count, constant_named, is_sort_name, is_term_name, may_be_enumeration, no_scope, numbered, or_else, function_names, sort_named, with_enumeration, with_function, with_sort};
 ghost use Rattle.name_maps.specs.Names.{place_of};
 ghost use Rattle.moxi_terms.specs.Meanings.{bare_call, call_of, head_named, value_named};
 ghost use Rattle.moxi_terms.specs.Scopes.{enumeration_now, constants_now, named_sort_now, function_now};
@@ -254,18 +254,6 @@ impl Scope {
         ensures { result.now ≡ self.now.sorts }
     {
         &self.sorts
-    }
-
-    /// Returns whether this many more constants, and one more declaration of each other kind, can be numbered with 32 bits.
-    pub fn has_room(&self, constants: usize) -> bool
-        ensures { result ≡ has_room self.now constants }
-    {
-        let most = u32::MAX as usize;
-        self.enumerations.len() < most
-            && self.sorts.len() < most
-            && self.functions.len() < most
-            && constants <= most
-            && self.constant_names.len() <= most - constants
     }
 
     /// Returns whether a sort has this name.

@@ -1,7 +1,6 @@
 -- The keys of a set of names.
-use Rattle.std.proofs.Common.{◌≡◌, ◌<◌, ◌≤◌, ◌+◌, drop, take, zero, ◌||◌, ℕ, suc, not, cond, nat_lt, Some, None, is_none, List, [], ◌∷◌, ◌++◌, length, map, refl, sym, ap, ◌∙◌, arith, append_assoc}
-use Rattle.std.proofs.lemmas.List.{length-map, drop_more, drop_all}
-use Rattle.std.proofs.lemmas.Option.{slice_get_within, get_or_from_slice_get}
+use Rattle.std.proofs.Common.{◌≡◌, ◌<◌, ◌+◌, take, zero, ◌||◌, ℕ, suc, not, cond, nat_lt, Some, None, is_none, List, [], ◌∷◌, ◌++◌, length, map, refl, sym, ap, ◌∙◌, arith, append_assoc}
+use Rattle.std.proofs.lemmas.List.{length-map}
 use Rattle.std.specs.List.{position, position_or_len, list_any, slice_get}
 use Rattle.std.specs.Str.{bytes_eq}
 use Rattle.name_maps.specs.declared.key.Key.{Key}
@@ -35,14 +34,17 @@ take_names zero keys = refl
 take_names (suc n) [] = refl
 take_names (suc n) (key ∷ keys) = ap (λ names. key.name ∷ names) (take_names n keys)
 
--- the names of the keys from a place on
-pub keys_behind : (keys : List Key) (k : ℕ) (key : Key) → Some key ≡ slice_get keys k → map (λ key. key.name) (drop k keys) ≡ key.name ∷ map (λ key. key.name) (drop (k + 1) keys)
-keys_behind keys k key is =
-    let low : k < length keys = slice_get_within keys k key (sym is) in
-    ap (map (λ key. key.name)) (drop_more keys k key low ∙ ap (λ name. name ∷ drop (k + 1) keys) (get_or_from_slice_get keys k key key (sym is)))
+-- the name of a key by its place
+pub name_at : (keys : List Key) (k : ℕ) (key : Key) → Some key ≡ slice_get keys k → slice_get (map (λ key. key.name) keys) k ≡ Some key.name
+name_at [] k key is = cc
+name_at (x ∷ keys) zero key is = cc
+name_at (x ∷ keys) (suc k) key is = name_at keys k key is
 
-pub keys_end : (keys : List Key) (k n : ℕ) → n ≡ length keys → n ≤ k → map (λ key. key.name) (drop k keys) ≡ []
-keys_end keys k n e l = ap (map (λ key. key.name)) (drop_all k keys (omega (arith, e, l)))
+-- each name has a key
+pub key_there : (keys : List Key) (k : ℕ) → k < length (map (λ key. key.name) keys) → None ≡ slice_get keys k → ⊥
+key_there [] k low is = absurd (omega (arith, low))
+key_there (x ∷ keys) zero low is = cc
+key_there (x ∷ keys) (suc k) low is = key_there keys k (omega (arith, low)) is
 
 -- what was put at the end counts as the front of what is to come
 pub joined_on : {X : Type 0} (front more : List X) (x : X) → (front ++ x ∷ []) ++ more ≡ front ++ x ∷ more

@@ -1,5 +1,5 @@
 // Names in declaration order, found without a scan.
-ghost use Rattle.std.specs.Prelude.{◌≡◌, true, is_none, ◌++◌, ◌∷◌, [], length, take, IfOk, OnErr, if◌then◌else◌};
+ghost use Rattle.std.specs.Prelude.{◌≡◌, ◌<◌, true, Some, is_none, ◌++◌, ◌∷◌, [], length, slice_get, take, IfOk, OnErr, if◌then◌else◌};
 ghost use Rattle.name_maps.specs.Names.{are_fresh, place_of};
 
 use crate::key::{Key, Wanted};
@@ -52,20 +52,16 @@ impl NameSet {
         self.names.get_index_of(Wanted { bytes: name })
     }
 
-    /// Returns the names as a list.
-    #[tactic(auto, using(crate::proofs::KeyLaws::keys_behind, crate::proofs::KeyLaws::keys_end, crate::proofs::KeyLaws::joined_on))]
-    pub fn names(&self, alloc: Global) -> Result<Names, NoMemory>
-        ensures { IfOk result (λ names. names ≡ self.now) }
+    /// Returns the name with this index.
+    #[tactic(auto, using(crate::proofs::KeyLaws::name_at, crate::proofs::KeyLaws::key_there))]
+    pub fn at(&self, k: usize) -> &[u8]
+        requires { k < length self.now }
+        ensures { slice_get self.now k ≡ Some result.now }
     {
-        let keys = &self.names;
-        let mut names = Names::new(alloc);
-        for k in 0..keys.len() {
-            match keys.get_index(k) {
-                Some(key) => names.push(key.name.duplicate(alloc)?)?,
-                None => {}
-            }
+        match self.names.get_index(k) {
+            Some(key) => key.name.bytes(),
+            None => unreachable!(),
         }
-        Ok(names)
     }
 
     /// Declares a name and returns whether it is new.

@@ -42,11 +42,11 @@ impl Symbols {
         self.names.place(name)
     }
 
-    /// Returns the symbols as a list of names.
-    pub fn names(&self, alloc: Global) -> Result<Names, NoMemory>
-        ensures { IfOk result (λ names. names ≡ self.now) }
+    /// Returns the symbols as a set of names.
+    pub fn into_names(self) -> NameSet
+        ensures { result ≡ self }
     {
-        self.names.names(alloc)
+        self.names
     }
 
     // Appends a symbol if it is new, and returns whether it is.
