@@ -92,10 +92,9 @@ fn put_body<'a>(
     requires { IsReady (map instance_plain table.now) (key_of body.now) (entries_seen entries.old) }
     ensures { OnOk result (IsPut (map instance_plain table.now) (key_of body.now) (entries_seen entries.old) (entries_seen entries.new)) }
 {
-    let known = table.local(body.instance, body.name);
-    match known {
+    match table.local(body.instance, body.name) {
         Known::Alias(j, path) => {
-            let target = table.target_of_alias(body.instance, body.name, known);
+            let target = table.target_of_alias(body.instance, body.name);
             let named = alias_named(table, entries, j, path, target);
             add_row_in(entries, body.instance, body.name, named)
         }
