@@ -2,3 +2,4 @@ pub mod Codes
 pub mod Operators
 pub mod Terms
 pub mod Script
+pub mod Ranges

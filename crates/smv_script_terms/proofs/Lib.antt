@@ -2,6 +2,7 @@ pub mod Steps
 mod TreeLists
 mod LinkLists
 pub mod Depths
+pub mod InRange
 pub mod Translated
 mod Termed
 pub mod Numbered

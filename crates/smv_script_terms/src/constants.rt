@@ -1,5 +1,6 @@
 // The constants of values, and the variables of items.
-ghost use Rattle.std.specs.Prelude.{◌≡◌, ◌<◌, ◌≤◌, ◌^◌, IfOk};
+ghost use Rattle.std.specs.Prelude.{◌≡◌, ◌<◌, ◌≤◌, ◌^◌};
+ghost use Rattle.word_core.specs.Words.{IsWord};
 ghost use Rattle.moxi_terms.specs.View.{plain};
 ghost use Rattle.smv_script.specs.Codes.{integer_bits, integer_word};
 ghost use Rattle.smv_script.specs.Operators.{word_term, integer_term};
@@ -7,7 +8,6 @@ ghost use Rattle.smv_script_terms.specs.Questions.{place_at, subject_tree};
 
 use crate::coding::{Coding, Subject};
 use moxi_terms::{Datum, Term};
-use text_core::NoMemory;
 use word_core::Word;
 
 impl Coding {
@@ -34,22 +34,23 @@ pub(crate) fn subject_term(subject: Subject) -> Term
     }
 }
 
-// No accepted model has a value that is not a word here.
-fn word(width: u32, bits: u128) -> Result<Word, NoMemory>
-    ensures { IfOk result (λ w. w ≡ record { width = width; bits = bits }) }
+// The word of this width and these bits.
+fn word(width: u32, bits: u128) -> Word
+    requires { IsWord (record { width = width; bits = bits }) }
+    ensures { result ≡ record { width = width; bits = bits } }
 {
     match Word::of(width, bits) {
-        Some(w) => Ok(w),
-        None => Err(NoMemory),
+        Some(w) => w,
+        None => unreachable!(),
     }
 }
 
-/// Returns the constant term of a word of this width.
-pub(crate) fn word_term(width: u32, bits: u128) -> Result<Term, NoMemory>
-    ensures { IfOk result (λ t. plain t ≡ word_term width bits) }
+/// Returns the constant term of the word of this width and these bits.
+pub(crate) fn word_term(width: u32, bits: u128) -> Term
+    requires { IsWord (record { width = width; bits = bits }) }
+    ensures { plain result ≡ word_term width bits }
 {
-    let w = word(width, bits)?;
-    Ok(Term::Constant(Datum::Bits(w)))
+    Term::Constant(Datum::Bits(word(width, bits)))
 }
 
 // The number of integers of this width.
@@ -81,10 +82,7 @@ fn integer_word(width: u32, z: i128) -> Word
     requires low { width ≤ 64 }
     ensures { result ≡ integer_word width z }
 {
-    match Word::of(width, integer_bits(width, z)) {
-        Some(w) => w,
-        None => unreachable!(),
-    }
+    word(width, integer_bits(width, z))
 }
 
 /// Returns the constant term of an integer in two's complement of this width.

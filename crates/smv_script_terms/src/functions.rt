@@ -1,10 +1,12 @@
 // The terms of functions and of bit selections.
 ghost use Rattle.std.specs.Prelude.{◌≡◌, ◌<◌, ◌≤◌, ◌+◌, ◌^◌, IfOk, map, option_map};
+ghost use Rattle.word_core.specs.Words.{IsWord};
 ghost use Rattle.moxi_terms.specs.Tree.{binding, trees_of};
 ghost use Rattle.moxi_terms.specs.View.{plain};
 ghost use Rattle.smv_flat.specs.FlatTree.{flat_trees_of};
 ghost use Rattle.smv_flat.specs.FlatView.{plain_flat};
 ghost use Rattle.smv_script.specs.Operators.{between_term, choice_term, counted_term, counted_terms, equal_term, extended_term, function_term, one, resized_term, selected_term, sum_term, t_alone, t_and_u, word_term};
+ghost use Rattle.smv_script.specs.Ranges.{call_excess};
 ghost use Rattle.smv_script.specs.Terms.{arguments_of, second_of};
 ghost use Rattle.smv_script_terms.specs.Functions.{arguments_plain, first_term, first_tree, magnitude_term, only_term, only_tree, pair_body, pair_term};
 ghost use Rattle.smv_script_terms.specs.Questions.{subject_tree};
@@ -55,16 +57,6 @@ pub(crate) fn arguments_of(arguments: &[FlatExpr]) -> Arguments
     }
 }
 
-// No accepted model has a value of more than 32 bits here.
-fn small(n: u64) -> Result<u32, NoMemory>
-    ensures { IfOk result (λ m. m ≡ n) }
-{
-    match u32::try_from(n) {
-        Ok(m) => Ok(m),
-        Err(_) => Err(NoMemory),
-    }
-}
-
 // The word with n leading zeros added.
 fn extended(alloc: Global, n: u32, a: Term) -> Result<Term, NoMemory>
     ensures { IfOk result (λ t. plain t ≡ extended_term n (plain a)) }
@@ -84,13 +76,14 @@ pub(crate) fn selected(
     low: u64,
     a: Term,
 ) -> Result<Term, NoMemory>
+    requires high { high < 2 ^ 32 }
+    requires low { low < 2 ^ 32 }
     ensures { IfOk result (λ t. plain t ≡ selected_term width high low (plain a)) }
 {
     if low == 0 && width > 0 && high == width as u64 - 1 {
         Ok(a)
     } else {
-        let op = TermOp::Extract(small(high)?, small(low)?);
-        apply_one(alloc, op, a)
+        apply_one(alloc, TermOp::Extract(high as u32, low as u32), a)
     }
 }
 
@@ -181,17 +174,14 @@ fn bound_pair(alloc: Global, k: u32, lesser: bool, terms: Terms) -> Result<Term,
 fn truth_of(alloc: Global, a: Term) -> Result<Term, NoMemory>
     ensures { IfOk result (λ t. plain t ≡ equal_term (plain a) (word_term 1 1)) }
 {
-    let one = word_term(1, 1)?;
-    apply_two(alloc, TermOp::Equal, a, one)
+    apply_two(alloc, TermOp::Equal, a, word_term(1, 1))
 }
 
 // A truth value as a word of one bit.
 fn bit_of(alloc: Global, a: Term) -> Result<Term, NoMemory>
     ensures { IfOk result (λ t. plain t ≡ choice_term (plain a) (word_term 1 1) (word_term 1 0)) }
 {
-    let one = word_term(1, 1)?;
-    let zero = word_term(1, 0)?;
-    choice(alloc, a, one, zero)
+    choice(alloc, a, word_term(1, 1), word_term(1, 0))
 }
 
 // The absolute value of an integer.
@@ -209,11 +199,11 @@ fn magnitude(alloc: Global, width: u32, k: u32, a: Term) -> Result<Term, NoMemor
 }
 
 // The word of `uwconst`.
-fn constant(arguments: Arguments) -> Result<Term, NoMemory>
-    ensures { IfOk result (λ t. plain t ≡ word_term arguments.second arguments.first) }
+fn constant(arguments: Arguments) -> Term
+    requires { IsWord (record { width = arguments.second; bits = arguments.first }) }
+    ensures { plain result ≡ word_term arguments.second arguments.first }
 {
-    let width = small(arguments.second)?;
-    word_term(width, arguments.first as u128)
+    word_term(arguments.second as u32, arguments.first as u128)
 }
 
 // A function of exactly one argument, given the argument's term.
@@ -246,9 +236,10 @@ fn of_first(
     n: u64,
     a: Term,
 ) -> Result<Term, NoMemory>
+    requires { n < 2 ^ 32 }
     ensures { IfOk result (λ t. plain t ≡ first_term function before n (plain a)) }
 {
-    let n = small(n)?;
+    let n = n as u32;
     match function {
         Function::Extend => extended(alloc, n, a),
         Function::Resize => resized(alloc, before, n, a),
@@ -281,6 +272,7 @@ pub(crate) fn function_term(
     requires some { 1 ≤ width }
     requires low { width ≤ 64 }
     requires bound { k + 1 < 2 ^ 32 }
+    requires in_range { call_excess function (arguments_plain arguments) ≡ 0 }
     ensures { IfOk result (λ t. plain t ≡ function_term width k function (arguments_plain arguments) (trees_of (map plain terms.items))) }
 {
     match function {
@@ -290,7 +282,7 @@ pub(crate) fn function_term(
                 None => Ok(nothing()),
             }
         }
-        Function::Uwconst => constant(arguments),
+        Function::Uwconst => Ok(constant(arguments)),
         Function::Extend | Function::Resize => match first_of(terms) {
             Some(a) => of_first(alloc, function, arguments.width, arguments.second, a),
             None => Ok(nothing()),

@@ -1,9 +1,11 @@
 // The parts of chains and cases, and the terms that combine them.
 ghost use Rattle.std.specs.Prelude.{◌≡◌, IfOk, map};
+ghost use Rattle.word_core.specs.Words.{IsWord};
 ghost use Rattle.moxi_terms.specs.Tree.{binding};
 ghost use Rattle.moxi_terms.specs.View.{plain};
 ghost use Rattle.smv_flat.specs.FlatView.{plain_flat};
 ghost use Rattle.smv_script.specs.Operators.{front_width, one, t_alone, infix_term, word_term};
+ghost use Rattle.smv_script.specs.Ranges.{joined_excess, shift_excess};
 ghost use Rattle.smv_script.specs.Terms.{is_word, word_width, amount_of};
 ghost use Rattle.smv_script_terms.specs.Operands.{operand_plain, case_plain, implied_parts, joined_term, chosen_cases};
 
@@ -91,15 +93,13 @@ pub(crate) fn chosen(alloc: Global, cases: Vec<Case>, last: Term) -> Result<Term
 
 /// Returns the width of a word chain's prefix that ends with an operand, given the widths of the part before and of the
 /// operand.
-pub(crate) fn front_width(op: Infix, before: u32, operand: u32) -> Result<u32, NoMemory>
-    ensures { IfOk result (λ n. n ≡ front_width op before operand) }
+pub(crate) fn front_width(op: Infix, before: u32, operand: u32) -> u32
+    requires { joined_excess op before operand ≡ 0 }
+    ensures { result ≡ front_width op before operand }
 {
     match op {
-        Infix::Concat => match before.checked_add(operand) {
-            Some(n) => Ok(n),
-            None => Err(NoMemory),
-        },
-        _ => Ok(before),
+        Infix::Concat => before + operand,
+        _ => before,
     }
 }
 
@@ -122,10 +122,10 @@ fn shifted(
     whole: Term,
     amount: u64,
 ) -> Result<Term, NoMemory>
+    requires { IsWord (record { width = width; bits = amount }) }
     ensures { IfOk result (λ t. plain t ≡ infix_term op words (plain whole) (word_term width amount)) }
 {
-    let count = word_term(width, amount as u128)?;
-    infix(alloc, op, words, whole, count)
+    infix(alloc, op, words, whole, word_term(width, amount as u128))
 }
 
 /// Returns the term of a chain's prefix with the next operator and operand applied.
@@ -141,6 +141,7 @@ pub(crate) fn joined(
     operand: &FlatExpr,
     term: Term,
 ) -> Result<Term, NoMemory>
+    requires { shift_excess op width (amount_of (plain_flat operand.now)) ≡ 0 }
     ensures { IfOk result (λ t. plain t ≡ joined_term op named (is_word (plain_flat operand.now)) width (amount_of (plain_flat operand.now)) (plain whole) (plain term)) }
 {
     let words = is_word(operand);

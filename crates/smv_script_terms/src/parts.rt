@@ -8,6 +8,7 @@ ghost use Rattle.smv_flat.specs.FlatFormulas.{form_plain};
 ghost use Rattle.smv_flat.specs.FlatView.{plain_flat};
 ghost use Rattle.smv_script.specs.Codes.{symbol_datum};
 ghost use Rattle.smv_script.specs.Script.{body_parts, domain_parts, form_parts, interval_parts, invar_item, is_following, member_term, trans_item};
+ghost use Rattle.smv_script.specs.Ranges.{excess};
 ghost use Rattle.smv_script.specs.Terms.{translation};
 ghost use Rattle.smv_meaning.specs.Phases.{when_same};
 ghost use Rattle.smv_script_terms.specs.Depths.{depth};
@@ -167,7 +168,8 @@ fn add_body(
     form: &FlatFormula,
     all: &mut Terms,
 ) -> Result<(), NoMemory>
-    requires { depth 0 (plain_flat form.now.body) < 2 ^ 32 }
+    requires deep { depth 0 (plain_flat form.now.body) < 2 ^ 32 }
+    requires in_range { excess (plain_flat form.now.body) ≡ 0 }
     ensures { OnOk result (map plain all.new.items ≡ map plain all.old.items ++ body_equation (codes_of coding.now) form.now.role (plain_flat form.now.body)) }
 {
     match form.role {
@@ -278,7 +280,8 @@ fn assigned(
     k: u32,
     body: &FlatExpr,
 ) -> Result<Term, NoMemory>
-    requires { depth 0 (plain_flat body.now) < 2 ^ 32 }
+    requires deep { depth 0 (plain_flat body.now) < 2 ^ 32 }
+    requires in_range { excess (plain_flat body.now) ≡ 0 }
     ensures { IfOk result (λ t. plain t ≡ (translation (codes_of coding.now) (plain_flat body.now)).member 0 (variable ((codes_of coding.now).place k) (is_following when))) }
 {
     let subject = Subject::Variable(coding.place(k), is_following(when));
@@ -293,7 +296,8 @@ pub(crate) fn add_form(
     form: &FlatFormula,
     all: &mut Terms,
 ) -> Result<(), NoMemory>
-    requires { depth 0 (plain_flat form.now.body) < 2 ^ 32 }
+    requires deep { depth 0 (plain_flat form.now.body) < 2 ^ 32 }
+    requires in_range { excess (plain_flat form.now.body) ≡ 0 }
     ensures { OnOk result (map plain all.new.items ≡ map plain all.old.items ++ form_parts (codes_of coding.now) when form.now.role (plain_flat form.now.body)) }
 {
     match (form.role, when) {

@@ -1,6 +1,7 @@
 // The parts of a flat form that a script is computed from.
-ghost use Rattle.std.specs.Prelude.{◌<◌, ◌^◌, length, map};
+ghost use Rattle.std.specs.Prelude.{◌≡◌, ◌<◌, ◌^◌, length, map};
 ghost use Rattle.smv_flat.specs.FlatFormulas.{form_plain};
+ghost use Rattle.smv_script.specs.Ranges.{forms_excess};
 ghost use Rattle.smv_script_terms.specs.Depths.{forms_depth};
 
 use name_maps::NameSet;
@@ -19,4 +20,5 @@ pub struct FlatParts<'f> {
     pub ghost few_items: { length items.now < 2 ^ 30 },
     pub ghost few_symbols: { length symbols.now < 2 ^ 32 },
     pub ghost low: { forms_depth (map form_plain formulas.now) < 2 ^ 32 },
+    pub ghost in_range: { forms_excess (map form_plain formulas.now) ≡ 0 },
 }

@@ -5,7 +5,8 @@ ghost use Rattle.moxi_terms.specs.View.{plain};
 ghost use Rattle.smv_flat.specs.FlatTree.{flat_links_of, flat_branches_of, flat_trees_of};
 ghost use Rattle.smv_flat.specs.FlatView.{plain_flat, plain_flat_link, plain_flat_branch};
 ghost use Rattle.smv_script.specs.Operators.{repeated, sign_op};
-ghost use Rattle.smv_script.specs.Terms.{is_word, translation, taken_translation};
+ghost use Rattle.smv_script.specs.Ranges.{branches_excess, call_excess, excess, fronts_excess, links_excess, trees_excess};
+ghost use Rattle.smv_script.specs.Terms.{arguments_of, is_word, taken_translation, translation, word_width};
 ghost use Rattle.smv_script_terms.specs.Depths.{depth, links_depth, branches_depth, trees_depth};
 ghost use Rattle.smv_script_terms.specs.Questions.{answered, codes_of};
 ghost use Rattle.smv_script_terms.specs.Operands.{answers, behind_term, case_plain, cases_of, chain_answers, link_answers, operand_plain, operands_of};
@@ -38,7 +39,8 @@ pub fn terms_of(
     question: Question,
     e: &FlatExpr,
 ) -> Result<Term, NoMemory>
-    requires { k + depth 0 (plain_flat e.now) < 2 ^ 32 }
+    requires deep { k + depth 0 (plain_flat e.now) < 2 ^ 32 }
+    requires in_range { excess (plain_flat e.now) ≡ 0 }
     ensures { IfOk result (λ t. plain t ≡ answered question (translation (codes_of coding.now) (plain_flat e.now)) k) }
 {
     match &e.shape {
@@ -83,7 +85,8 @@ fn prefixed(
     count: u32,
     operand: &FlatExpr,
 ) -> Result<Term, NoMemory>
-    requires { k + depth 0 (plain_flat operand.now) < 2 ^ 32 }
+    requires deep { k + depth 0 (plain_flat operand.now) < 2 ^ 32 }
+    requires in_range { excess (plain_flat operand.now) ≡ 0 }
     ensures { IfOk result (λ t. plain t ≡ repeated (sign_op sign (is_word (plain_flat operand.now))) count ((translation (codes_of coding.now) (plain_flat operand.now)).term k)) }
 {
     let a = terms_of(alloc, coding, k, Question::Value, operand)?;
@@ -101,7 +104,8 @@ fn chained(
     first: &FlatExpr,
     links: &[FlatLink],
 ) -> Result<Term, NoMemory>
-    requires { k + suc (max (depth 0 (plain_flat first.now)) (links_depth 0 (flat_links_of (map plain_flat_link links.now)))) < 2 ^ 32 }
+    requires deep { k + suc (max (depth 0 (plain_flat first.now)) (links_depth 0 (flat_links_of (map plain_flat_link links.now)))) < 2 ^ 32 }
+    requires in_range { excess (plain_flat first.now) + links_excess (flat_links_of (map plain_flat_link links.now)) + fronts_excess (word_width (plain_flat first.now)) (flat_links_of (map plain_flat_link links.now)) ≡ 0 }
     ensures { IfOk result (λ t. plain t ≡ chain_answered question (codes_of coding.now) k (plain_flat first.now) (flat_links_of (map plain_flat_link links.now))) }
 {
     match reading_of(links) {
@@ -136,7 +140,8 @@ fn united(
     first: &FlatExpr,
     links: &[FlatLink],
 ) -> Result<Term, NoMemory>
-    requires { k + max (depth 0 (plain_flat first.now)) (links_depth 0 (flat_links_of (map plain_flat_link links.now))) < 2 ^ 32 }
+    requires deep { k + max (depth 0 (plain_flat first.now)) (links_depth 0 (flat_links_of (map plain_flat_link links.now))) < 2 ^ 32 }
+    requires in_range { excess (plain_flat first.now) + links_excess (flat_links_of (map plain_flat_link links.now)) ≡ 0 }
     ensures { IfOk result (λ t. plain t ≡ united_answer question (codes_of coding.now) k (plain_flat first.now) (flat_links_of (map plain_flat_link links.now))) }
 {
     match question {
@@ -159,7 +164,8 @@ fn link_terms(
     first: &FlatExpr,
     links: &[FlatLink],
 ) -> Result<Terms, NoMemory>
-    requires { k + max (depth 0 (plain_flat first.now)) (links_depth 0 (flat_links_of (map plain_flat_link links.now))) < 2 ^ 32 }
+    requires deep { k + max (depth 0 (plain_flat first.now)) (links_depth 0 (flat_links_of (map plain_flat_link links.now))) < 2 ^ 32 }
+    requires in_range { excess (plain_flat first.now) + links_excess (flat_links_of (map plain_flat_link links.now)) ≡ 0 }
     ensures { IfOk result (λ ts. trees_of (map plain ts.items) ≡ chain_answers question (codes_of coding.now) k (plain_flat first.now) (flat_links_of (map plain_flat_link links.now))) }
 {
     let mut all = Vec::with_capacity(alloc, links.len() + 1)?;
@@ -180,7 +186,8 @@ fn operands(
     k: u32,
     links: &[FlatLink],
 ) -> Result<Vec<Operand>, NoMemory>
-    requires { k + links_depth 0 (flat_links_of (map plain_flat_link links.now)) < 2 ^ 32 }
+    requires deep { k + links_depth 0 (flat_links_of (map plain_flat_link links.now)) < 2 ^ 32 }
+    requires in_range { links_excess (flat_links_of (map plain_flat_link links.now)) ≡ 0 }
     ensures { IfOk result (λ xs. map operand_plain xs.items ≡ operands_of (codes_of coding.now) k (flat_links_of (map plain_flat_link links.now))) }
 {
     let mut all = Vec::with_capacity(alloc, links.len())?;
@@ -202,7 +209,8 @@ fn folded(
     first: &FlatExpr,
     links: &[FlatLink],
 ) -> Result<Term, NoMemory>
-    requires { k + suc (max (depth 0 (plain_flat first.now)) (links_depth 0 (flat_links_of (map plain_flat_link links.now)))) < 2 ^ 32 }
+    requires deep { k + suc (max (depth 0 (plain_flat first.now)) (links_depth 0 (flat_links_of (map plain_flat_link links.now)))) < 2 ^ 32 }
+    requires in_range { excess (plain_flat first.now) + links_excess (flat_links_of (map plain_flat_link links.now)) + fronts_excess (word_width (plain_flat first.now)) (flat_links_of (map plain_flat_link links.now)) ≡ 0 }
     ensures { IfOk result (λ t. plain t ≡ folded_answer (codes_of coding.now) k (plain_flat first.now) (flat_links_of (map plain_flat_link links.now))) }
 {
     let mut whole = terms_of(alloc, coding, k, Question::Value, first)?;
@@ -210,7 +218,7 @@ fn folded(
     let mut width = word_width(first);
     for link in links {
         let term = behind(alloc, coding, k, link.op, tested, &link.operand)?;
-        let next = front_width(link.op, width, word_width(&link.operand))?;
+        let next = front_width(link.op, width, word_width(&link.operand));
         let named = tested.is_some();
         whole = joined(alloc, link.op, named, width, whole, &link.operand, term)?;
         width = next;
@@ -230,7 +238,8 @@ fn behind(
     tested: Option<Subject>,
     operand: &FlatExpr,
 ) -> Result<Term, NoMemory>
-    requires { k + suc (depth 0 (plain_flat operand.now)) < 2 ^ 32 }
+    requires deep { k + suc (depth 0 (plain_flat operand.now)) < 2 ^ 32 }
+    requires in_range { excess (plain_flat operand.now) ≡ 0 }
     ensures { IfOk result (λ t. plain t ≡ behind_term op k tested (translation (codes_of coding.now) (plain_flat operand.now))) }
 {
     match op {
@@ -255,7 +264,8 @@ fn taken(
     question: Question,
     branches: &[FlatBranch],
 ) -> Result<Term, NoMemory>
-    requires { k + branches_depth 0 (flat_branches_of (map plain_flat_branch branches.now)) < 2 ^ 32 }
+    requires deep { k + branches_depth 0 (flat_branches_of (map plain_flat_branch branches.now)) < 2 ^ 32 }
+    requires in_range { branches_excess (flat_branches_of (map plain_flat_branch branches.now)) ≡ 0 }
     ensures { IfOk result (λ t. plain t ≡ answered question (taken_translation (codes_of coding.now) (flat_branches_of (map plain_flat_branch branches.now))) k) }
 {
     match branches.split_last() {
@@ -278,7 +288,8 @@ fn cases(
     question: Question,
     branches: &[FlatBranch],
 ) -> Result<Vec<Case>, NoMemory>
-    requires { k + branches_depth 0 (flat_branches_of (map plain_flat_branch branches.now)) < 2 ^ 32 }
+    requires deep { k + branches_depth 0 (flat_branches_of (map plain_flat_branch branches.now)) < 2 ^ 32 }
+    requires in_range { branches_excess (flat_branches_of (map plain_flat_branch branches.now)) ≡ 0 }
     ensures { IfOk result (λ xs. map case_plain xs.items ≡ cases_of question (codes_of coding.now) k (flat_branches_of (map plain_flat_branch branches.now))) }
 {
     let mut all = Vec::with_capacity(alloc, branches.len())?;
@@ -300,7 +311,8 @@ fn parts(
     question: Question,
     exprs: &[FlatExpr],
 ) -> Result<Terms, NoMemory>
-    requires { k + trees_depth 0 (flat_trees_of (map plain_flat exprs.now)) < 2 ^ 32 }
+    requires deep { k + trees_depth 0 (flat_trees_of (map plain_flat exprs.now)) < 2 ^ 32 }
+    requires in_range { trees_excess (flat_trees_of (map plain_flat exprs.now)) ≡ 0 }
     ensures { IfOk result (λ ts. trees_of (map plain ts.items) ≡ answers question (codes_of coding.now) k (flat_trees_of (map plain_flat exprs.now))) }
 {
     let mut all = Vec::with_capacity(alloc, exprs.len())?;
@@ -321,7 +333,8 @@ fn called(
     function: Function,
     arguments: &[FlatExpr],
 ) -> Result<Term, NoMemory>
-    requires { k + suc (trees_depth 0 (flat_trees_of (map plain_flat arguments.now))) < 2 ^ 32 }
+    requires deep { k + suc (trees_depth 0 (flat_trees_of (map plain_flat arguments.now))) < 2 ^ 32 }
+    requires in_range { trees_excess (flat_trees_of (map plain_flat arguments.now)) + call_excess function (arguments_of (flat_trees_of (map plain_flat arguments.now))) ≡ 0 }
     ensures { IfOk result (λ t. plain t ≡ called_term (codes_of coding.now) k function (flat_trees_of (map plain_flat arguments.now))) }
 {
     let terms = parts(alloc, coding, k, Question::Value, arguments)?;
@@ -345,7 +358,8 @@ fn gathered(
     question: Question,
     elements: &[FlatExpr],
 ) -> Result<Term, NoMemory>
-    requires { k + trees_depth 0 (flat_trees_of (map plain_flat elements.now)) < 2 ^ 32 }
+    requires deep { k + trees_depth 0 (flat_trees_of (map plain_flat elements.now)) < 2 ^ 32 }
+    requires in_range { trees_excess (flat_trees_of (map plain_flat elements.now)) ≡ 0 }
     ensures { IfOk result (λ t. plain t ≡ gathered_answer question (codes_of coding.now) k (flat_trees_of (map plain_flat elements.now))) }
 {
     match question {

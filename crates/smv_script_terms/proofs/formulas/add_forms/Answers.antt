@@ -5,6 +5,7 @@ use Rattle.smv_script_terms.specs.FlatParts.{instance_count}
 use Rattle.smv_script_terms.specs.Parts.{form_number, form_owned}
 use Rattle.smv_script_terms.specs.Questions.{codes_of}
 use Rattle.smv_script_terms.proofs.Depths.{form_within}
+use Rattle.smv_script_terms.proofs.InRange.{form_range_within}
 use Rattle.smv_script_terms.proofs.Walked.{walk_starts}
 use Rattle.smv_script_terms.proofs.Formed.{form_numbers, forms_go_on}
 use Rattle.smv_script_terms.proofs.formulas.add_forms.Goals as goal
@@ -25,4 +26,10 @@ formulas-preserved c =
     (λ f. refl) c.requires.chains.formulas c.requires.number c.formulas-test.true c.index-flat-j.is c.in_ok-add_form.ensures c.next-j.ensures c.formulas.invariant
 
 pub add_form-requires : goal.add_form-requires
-add_form-requires c = let d = form_within c.args.flat.now.formulas.now c.formulas.j c.index-flat-j.result c.formulas-test.true in let l = c.args.flat.now.low in omega (arith, d, l)
+add_form-requires c =
+    let formulas = c.args.flat.now.formulas.now in
+    let d = form_within formulas c.formulas.j c.index-flat-j.result c.formulas-test.true in
+    let r = form_range_within formulas c.formulas.j c.index-flat-j.result c.formulas-test.true in
+    let l = c.args.flat.now.low in
+    let g = c.args.flat.now.in_range in
+    record { deep = omega (arith, d, l); in_range = omega (arith, r, g) }

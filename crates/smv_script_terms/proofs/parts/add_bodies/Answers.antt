@@ -4,6 +4,7 @@ use Rattle.smv_flat.specs.FlatFormulas.{form_plain}
 use Rattle.smv_script_terms.specs.Parts.{body_number_of, body_owned}
 use Rattle.smv_script_terms.specs.Questions.{codes_of}
 use Rattle.smv_script_terms.proofs.Depths.{form_within}
+use Rattle.smv_script_terms.proofs.InRange.{form_range_within}
 use Rattle.smv_script_terms.proofs.Walked.{walk_starts}
 use Rattle.smv_script_terms.proofs.Formed.{bodies_end, form_numbers, forms_go_on}
 use Rattle.smv_script_terms.proofs.parts.add_bodies.Goals as goal
@@ -30,4 +31,10 @@ returns c =
     bodies_end (length c.args.flat.now.items.now) c.args.k c.bodies.j (codes_of c.args.coding.now) c.args.flat.now.formulas.now (map plain c.bodies.all.items) (map plain c.args.all.now.items) c.bodies-test.false c.bodies.invariant
 
 pub add_body-requires : goal.add_body-requires
-add_body-requires c = let d = form_within c.args.flat.now.formulas.now c.bodies.j c.index-flat-j.result c.bodies-test.true in let l = c.args.flat.now.low in omega (arith, d, l)
+add_body-requires c =
+    let formulas = c.args.flat.now.formulas.now in
+    let d = form_within formulas c.bodies.j c.index-flat-j.result c.bodies-test.true in
+    let r = form_range_within formulas c.bodies.j c.index-flat-j.result c.bodies-test.true in
+    let l = c.args.flat.now.low in
+    let g = c.args.flat.now.in_range in
+    record { deep = omega (arith, d, l); in_range = omega (arith, r, g) }

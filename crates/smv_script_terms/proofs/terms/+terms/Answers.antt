@@ -1,69 +1,79 @@
-use Rattle.std.proofs.Common.{◌∙◌, ◌∷◌, [], arith, refl, sym, ap, map}
+use Rattle.std.proofs.Common.{◌+◌, ◌∙◌, ◌∷◌, [], arith, drop, refl, sym, ap, map}
 use Rattle.smv_flat.specs.laws.FlatSteps.{drop_item}
 use Rattle.smv_flat.specs.FlatTree.{flat_links_of, flat_trees_of}
 use Rattle.smv_flat.specs.FlatView.{plain_flat, plain_flat_link}
 use Rattle.moxi_terms.specs.Tree.{apply, tree, trees_of}
 use Rattle.moxi_terms.specs.View.{plain}
 use Rattle.moxi_terms.proofs.Plain.{plain-Apply}
-use Rattle.smv_script.specs.Operators.{function_term, infix_op}
+use Rattle.smv_script.specs.Operators.{front_width, function_term, infix_op}
+use Rattle.smv_script.specs.Ranges.{joined_excess}
 use Rattle.smv_script.specs.Terms.{translation, arguments_of, is_word}
 use Rattle.smv_script_terms.specs.Questions.{answered, codes_of}
 use Rattle.smv_script_terms.specs.Operands.{answers, case_plain, implied_parts, link_answers, operand_plain}
 use Rattle.smv_script_terms.proofs.Depths.{link_low, branch_low, tree_low, firsts_low}
+use Rattle.smv_script_terms.proofs.InRange.{link_in_range, branch_in_range, tree_in_range, firsts_in_range, fronts_from, front_in_range}
 use Rattle.smv_script_terms.proofs.Steps.{step_on, steps_end, pushed}
 use Rattle.smv_script_terms.proofs.Translated.{ok_same, back, values_are, union_read, implied_read, joined_read, left_read}
 use Rattle.smv_script_terms.proofs.Termed.{choice_made, prefix_made, select_made, call_made, set_made, link_list, link_elements, link_alone, operand_list, operand_elements, operand_alone, case_list, case_elements, case_alone, part_list, folded_on, taken_cases}
 use Rattle.smv_script_terms.proofs.terms.+terms.Goals as goal
 
--- ---- depths
+-- ---- parts
 
 pub cases-terms_of-requires : goal.cases-terms_of-requires
 cases-terms_of-requires t c =
     let d = branch_low 1 c.args.branches.now c.loop-branch.branch-index c.branch-item.result c.loop-branch-test.true c.branch-item.is in
     let n = branch_low 0 c.args.branches.now c.loop-branch.branch-index c.branch-item.result c.loop-branch-test.true c.branch-item.is in
-    (omega (arith, d.when), omega (arith, n.when))
+    let r = branch_in_range c.args.branches.now c.loop-branch.branch-index c.branch-item.result c.loop-branch-test.true c.branch-item.is in
+    (omega (arith, d.when), (omega (arith, n.when), omega (arith, r.when)))
 
 pub cases-terms_of-requires-in-loop-branch : goal.cases-terms_of-requires-in-loop-branch
 cases-terms_of-requires-in-loop-branch t c =
     let d = branch_low 1 c.args.branches.now c.loop-branch.branch-index c.branch-item.result c.loop-branch-test.true c.branch-item.is in
     let n = branch_low 0 c.args.branches.now c.loop-branch.branch-index c.branch-item.result c.loop-branch-test.true c.branch-item.is in
-    (omega (arith, d.value), omega (arith, n.value))
+    let r = branch_in_range c.args.branches.now c.loop-branch.branch-index c.branch-item.result c.loop-branch-test.true c.branch-item.is in
+    (omega (arith, d.value), (omega (arith, n.value), omega (arith, r.value)))
 
 pub folded-behind-requires : goal.folded-behind-requires
 folded-behind-requires t c =
     let d = link_low 1 c.args.links.now c.loop-link.link-index c.link-item.result c.loop-link-test.true c.link-item.is in
     let n = link_low 0 c.args.links.now c.loop-link.link-index c.link-item.result c.loop-link-test.true c.link-item.is in
-    (omega (arith, d), omega (arith, n))
+    let r = link_in_range c.args.links.now c.loop-link.link-index c.link-item.result c.loop-link-test.true c.link-item.is in
+    (omega (arith, d), (omega (arith, n), omega (arith, r)))
 
 pub link_terms-terms_of-requires-in-loop-link : goal.link_terms-terms_of-requires-in-loop-link
 link_terms-terms_of-requires-in-loop-link t c =
     let d = link_low 1 c.args.links.now c.loop-link.link-index c.link-item.result c.loop-link-test.true c.link-item.is in
     let n = link_low 0 c.args.links.now c.loop-link.link-index c.link-item.result c.loop-link-test.true c.link-item.is in
-    (omega (arith, d), omega (arith, n))
+    let r = link_in_range c.args.links.now c.loop-link.link-index c.link-item.result c.loop-link-test.true c.link-item.is in
+    (omega (arith, d), (omega (arith, n), omega (arith, r)))
 
 pub operands-terms_of-requires : goal.operands-terms_of-requires
 operands-terms_of-requires t c =
     let d = link_low 1 c.args.links.now c.loop-link.link-index c.link-item.result c.loop-link-test.true c.link-item.is in
     let n = link_low 0 c.args.links.now c.loop-link.link-index c.link-item.result c.loop-link-test.true c.link-item.is in
-    (omega (arith, d), omega (arith, n))
+    let r = link_in_range c.args.links.now c.loop-link.link-index c.link-item.result c.loop-link-test.true c.link-item.is in
+    (omega (arith, d), (omega (arith, n), omega (arith, r)))
 
 pub parts-terms_of-requires : goal.parts-terms_of-requires
 parts-terms_of-requires t c =
     let d = tree_low 1 c.args.exprs.now c.loop-e.e-index c.e-item.result c.loop-e-test.true c.e-item.is in
     let n = tree_low 0 c.args.exprs.now c.loop-e.e-index c.e-item.result c.loop-e-test.true c.e-item.is in
-    (omega (arith, d), omega (arith, n))
+    let r = tree_in_range c.args.exprs.now c.loop-e.e-index c.e-item.result c.loop-e-test.true c.e-item.is in
+    (omega (arith, d), (omega (arith, n), omega (arith, r)))
 
 pub taken-terms_of-requires : goal.taken-terms_of-requires
 taken-terms_of-requires t c =
     let d = firsts_low 1 c.args.branches.now c.in-Some.firsts.now c.in-Some.last.now c.in-Some.ensures.cases.0 in
     let n = firsts_low 0 c.args.branches.now c.in-Some.firsts.now c.in-Some.last.now c.in-Some.ensures.cases.0 in
-    (omega (arith, d.last), omega (arith, n.last))
+    let r = firsts_in_range c.args.branches.now c.in-Some.firsts.now c.in-Some.last.now c.in-Some.ensures.cases.0 in
+    (omega (arith, d.last), (omega (arith, n.last), omega (arith, r.last)))
 
 pub taken-cases-requires : goal.taken-cases-requires
 taken-cases-requires t c =
     let d = firsts_low 1 c.args.branches.now c.in-Some.firsts.now c.in-Some.last.now c.in-Some.ensures.cases.0 in
     let n = firsts_low 0 c.args.branches.now c.in-Some.firsts.now c.in-Some.last.now c.in-Some.ensures.cases.0 in
-    (omega (arith, d.firsts), omega (arith, n.firsts))
+    let r = firsts_in_range c.args.branches.now c.in-Some.firsts.now c.in-Some.last.now c.in-Some.ensures.cases.0 in
+    (omega (arith, d.firsts), (omega (arith, n.firsts), omega (arith, r.firsts)))
 
 -- ---- loops
 
@@ -96,12 +106,30 @@ link_terms-loop-link-preserved t c =
     (ap (λ a. a ∷ []) c.in_ok-t.ensures ∙ link_alone c.args.question (codes_of c.args.coding.now) c.args.k c.link-item.result)
     c.loop-link.invariant
 
+pub folded-front_width-next-requires : goal.folded-front_width-next-requires
+folded-front_width-next-requires t c =
+    let i = c.loop-link.link-index in
+    let r = front_in_range c.loop-link.width (drop i c.args.links.now) (drop (i + 1) c.args.links.now) c.link-item.result
+    (drop_item c.args.links.now i c.link-item.result c.loop-link-test.true c.link-item.is) c.loop-link.invariant.fronts in
+    ap (joined_excess c.link-item.result.op c.loop-link.width) c.word_width.ensures ∙ r.joined
+
+pub folded-joined-requires : goal.folded-joined-requires
+folded-joined-requires t c =
+    let i = c.loop-link.link-index in
+    (front_in_range c.loop-link.width (drop i c.args.links.now) (drop (i + 1) c.args.links.now) c.link-item.result
+    (drop_item c.args.links.now i c.link-item.result c.loop-link-test.true c.link-item.is) c.loop-link.invariant.fronts).shift
+
 pub folded-loop-link-preserved : goal.folded-loop-link-preserved
 folded-loop-link-preserved t c =
-    folded_on (codes_of c.args.coding.now) c.args.k c.args.links.now c.loop-link.link-index c.link-item.result c.loop-link.tested c.loop-link.width (plain c.loop-link.whole) c.in_ok-next.next c.word_width.result
-    (plain c.in_ok-term.term) (plain c.in_ok-whole-2.whole) _ c.is_some-named.result
-    (drop_item c.args.links.now c.loop-link.link-index c.link-item.result c.loop-link-test.true c.link-item.is)
-    c.word_width.ensures c.in_ok-next.ensures c.in_ok-term.ensures c.is_some-named.ensures c.in_ok-whole-2.ensures c.loop-link.invariant
+    let i = c.loop-link.link-index in
+    let d = drop_item c.args.links.now i c.link-item.result c.loop-link-test.true c.link-item.is in
+    record {
+      same = folded_on (codes_of c.args.coding.now) c.args.k c.args.links.now i c.link-item.result c.loop-link.tested c.loop-link.width (plain c.loop-link.whole) c.front_width-next.result c.word_width.result
+          (plain c.in_ok-term.term) (plain c.in_ok-whole-2.whole) _ c.is_some-named.result d
+          c.word_width.ensures c.front_width-next.ensures c.in_ok-term.ensures c.is_some-named.ensures c.in_ok-whole-2.ensures c.loop-link.invariant.same;
+      fronts = ap (λ m. fronts_from m (drop (i + 1) c.args.links.now)) (c.front_width-next.ensures ∙ ap (front_width c.link-item.result.op c.loop-link.width) c.word_width.ensures)
+          ∙ (front_in_range c.loop-link.width (drop i c.args.links.now) (drop (i + 1) c.args.links.now) c.link-item.result d c.loop-link.invariant.fronts).rest;
+    }
 
 -- ---- what is returned
 

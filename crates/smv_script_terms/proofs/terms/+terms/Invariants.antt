@@ -8,6 +8,7 @@ use Rattle.smv_script_terms.specs.Questions.{answered, codes_of}
 use Rattle.smv_script_terms.specs.Operands.{answers, case_plain, cases_of, folded, link_answers, operand_plain, operands_of}
 use Rattle.smv_script_terms.specs.Readings.{folded_answer}
 use Rattle.smv_script_terms.specs.Depths.{depth, links_depth, branches_depth, trees_depth}
+use Rattle.smv_script_terms.proofs.InRange.{fronts_from}
 use Rattle.smv_script_terms.proofs.terms.+terms.Given as goal
 
 abbrev pub decreases-terms_of : goal.decreases-terms_of
@@ -58,8 +59,11 @@ invariant-operands-loop-link l = map operand_plain l.all.items ++ operands_of (c
     ≡ operands_of (codes_of l.coding) l.k (flat_links_of (map plain_flat_link l.links))
 
 abbrev pub invariant-folded-loop-link : goal.invariant-folded-loop-link
-invariant-folded-loop-link l = folded (codes_of l.coding) l.k l.tested l.width (plain l.whole) (flat_links_of (map plain_flat_link (drop l.link-index l.links)))
-    ≡ folded_answer (codes_of l.coding) l.k (plain_flat l.first) (flat_links_of (map plain_flat_link l.links))
+invariant-folded-loop-link l = record {
+  same : folded (codes_of l.coding) l.k l.tested l.width (plain l.whole) (flat_links_of (map plain_flat_link (drop l.link-index l.links)))
+      ≡ folded_answer (codes_of l.coding) l.k (plain_flat l.first) (flat_links_of (map plain_flat_link l.links));
+  fronts : fronts_from l.width (drop l.link-index l.links) ≡ 0;
+}
 
 abbrev pub invariant-cases-loop-branch : goal.invariant-cases-loop-branch
 invariant-cases-loop-branch l = map case_plain l.all.items ++ cases_of l.question (codes_of l.coding) l.k (flat_branches_of (map plain_flat_branch (drop l.branch-index l.branches)))
