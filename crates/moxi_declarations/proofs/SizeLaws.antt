@@ -25,9 +25,9 @@ use Rattle.moxi_scripts.specs.declared.parts.Use.{Use}
 use Rattle.moxi_scripts.specs.Attributes.{is_behind, shape_holds, turn_after}
 use Rattle.moxi_scripts.specs.Commands.{Reading, command_named, reading_after, with_command, with_form, with_headed, with_known}
 use Rattle.moxi_scripts.specs.Cycles.{count_uses}
-use Rattle.moxi_scripts.specs.Declarations.{FunctionForms, are_symbols, body_reading, function_forms, function_in, function_parts, is_nil, may_be_constants, part_failures, result_sort, symbol_name, symbols_in, typed_function, with_defined_sort, with_function_of, with_list, with_listed, with_named_enumeration, with_new_enumeration, with_new_function, with_read_enumeration, with_read_function, with_read_sort, with_sort_if, with_sort_of, with_typed, with_typed_function}
+use Rattle.moxi_scripts.specs.Declarations.{FunctionForms, are_symbols, body_reading, function_forms, function_in, function_parts, is_nil, may_be_constants, part_failures, result_sort, symbol_name, symbols_in, typed_function, with_defined_sort, with_function_of, with_list, with_listed, with_named_enumeration, with_new_enumeration, with_read_enumeration, with_read_function, with_read_sort, with_sort_if, with_sort_of, with_typed, with_typed_function}
 use Rattle.moxi_scripts.specs.Entries.{entries_of, known_sort}
-use Rattle.moxi_scripts.specs.Shapes.{HeadedForms, NamedForm, headed, headed_by, named, named_by, named_in, parts_of, triple_of}
+use Rattle.moxi_scripts.specs.Shapes.{HeadedForms, NamedForm, headed, named, named_in, parts_of, triple_of}
 use Rattle.moxi_scripts.specs.Systems.{SystemReading, bare_system, content_of, locals_of, names_with_system, shaped_system, with_new_system, with_system}
 use Rattle.moxi_scripts.specs.Uses.{actuals_in, use_among, use_headed, use_named, use_of, uses_in}
 use Rattle.moxi_attributes.specs.laws.FormSizes.{headed_few, named_few, nodes_some, parts_few}

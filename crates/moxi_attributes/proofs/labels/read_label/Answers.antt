@@ -1,5 +1,5 @@
-use Rattle.std.proofs.Common.{◌≡◌, ◌<◌, Some, ap, sym, ◌∙◌, arith}
-use Rattle.moxi_sexpr.specs.Tree.{nodes, plain}
+use Rattle.std.proofs.Common.{◌≡◌, Some, ap, sym, ◌∙◌, arith}
+use Rattle.moxi_sexpr.specs.Tree.{plain}
 use Rattle.moxi_scripts.specs.Shapes.{named}
 use Rattle.moxi_attributes.specs.Views.{named_here, named_now}
 use Rattle.moxi_attributes.specs.laws.FormSizes.{named_less}

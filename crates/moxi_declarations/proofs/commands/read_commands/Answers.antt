@@ -1,4 +1,4 @@
-use Rattle.std.proofs.Common.{◌≡◌, ◌+◌, ◌≤◌, drop, ap, sym, ◌∙◌, subst, arith}
+use Rattle.std.proofs.Common.{◌+◌, ◌≤◌, drop, ap, sym, ◌∙◌, subst, arith}
 use Rattle.moxi_sexpr.specs.Tree.{all_nodes, nodes, plain, plain_forms}
 use Rattle.moxi_scripts.specs.Collecting.{also}
 use Rattle.moxi_scripts.specs.Commands.{commands_failures, reading_after}

@@ -1,4 +1,4 @@
-use Rattle.std.proofs.Common.{◌≡◌, ap, ◌∙◌, arith}
+use Rattle.std.proofs.Common.{ap, ◌∙◌, arith}
 use Rattle.std.specs.Prelude.{length}
 use Rattle.moxi_sexpr.specs.Tree.{plain_forms}
 use Rattle.moxi_scripts.specs.declared.parts.Turn.TheVariants.{AtKeyword}

@@ -1,4 +1,4 @@
-use Rattle.std.proofs.Common.{◌≡◌, ◌<◌, ◌^◌, IfSome, Option, sym, subst}
+use Rattle.std.proofs.Common.{◌<◌, ◌^◌, IfSome, Option, sym, subst}
 use Rattle.moxi_sexpr.specs.Tree.{Tree, nodes, plain_forms}
 use Rattle.moxi_scripts.specs.declared.parts.Command.TheVariants.{System}
 use Rattle.moxi_scripts.specs.declared.parts.Key.TheVariants.{Init, Inv, Trans}

@@ -1,4 +1,4 @@
-use Rattle.std.proofs.Common.{◌≡◌, ◌≤◌, ap, arith}
+use Rattle.std.proofs.Common.{ap, arith}
 use Rattle.moxi_sexpr.proofs.Counting.{forms_end, forms_step}
 use Rattle.moxi_sexpr.specs.Tree.{all_nodes}
 use Rattle.moxi_sexpr.proofs.nodes.+count.Goals as goal

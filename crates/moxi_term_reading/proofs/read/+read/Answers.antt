@@ -148,9 +148,10 @@ read_let-read_body-requires t c =
     pair_is (form.plain_forms c.args.rest.now) (form.plain f) body (ap pair_now (sym c.in-Some.is) ∙ c.pair.ensures)
     ∙ ap (λ x. form.tree x (form.tree body form.no_trees)) (plain_list f c.in-List.parts c.in-List.is) in
     let bound : AreBound (read_bindings ctx c.args.bounds.now q bs) c.in_ok-bindings-in-List.bindings =
-    subst (λ fs. AreBound (read_bindings ctx c.args.bounds.now q (form.plain_forms fs)) c.in_ok-bindings-in-List.bindings) c.deref.ensures.value c.in_ok-bindings-in-List.ensures.read in
-    (omega (arith, ap sizes rest, c.decreases),
-    omega (arith, ap form.all_nodes rest, ap length bound.locals, bindings_few ctx c.args.bounds.now q bs, ap length c.in_ok-bindings-in-List.ensures.kept, c.requires.few))
+    subst (λ fs. AreBound (read_bindings ctx c.args.bounds.now q (form.plain_forms fs)) c.in_ok-bindings-in-List.bindings) c.deref.ensures.value c.in_ok-bindings-in-List.ensures.read in (
+      omega (arith, ap sizes rest, c.decreases),
+      omega (arith, ap form.all_nodes rest, ap length bound.locals, bindings_few ctx c.args.bounds.now q bs, ap length c.in_ok-bindings-in-List.ensures.kept, c.requires.few),
+    )
 
 pub read_let-returns-in_ok-bindings-in-List-clause-read : goal.read_let-returns-in_ok-bindings-in-List-clause-read
 read_let-returns-in_ok-bindings-in-List-clause-read t c =
