@@ -152,7 +152,12 @@ fn fill_bodies<'a>(
 }
 
 // Sets an item to the value of its body, if it has one.
-fn fill_body<'a>(symbols: &'a NameSet, body: Option<&FlatExpr>, k: usize, values: &mut Vec<Seen<'a>>)
+fn fill_body<'a>(
+    symbols: &'a NameSet,
+    body: Option<&FlatExpr>,
+    k: usize,
+    values: &mut Vec<Seen<'a>>,
+)
     requires low { k < length values.old.items }
     requires safe { BodySafe (symbol_value symbols.now) (row_values values.old.items) (body_plain body) }
     ensures size { length values.new.items ≡ length values.old.items }
