@@ -89,9 +89,10 @@ definitions_local i [] other d = tt
 definitions_local i (c ∷ ds) other d =
     let f : List ℕ → Local = λ x. among_definitions i ds x (other x) in
     let g : List ℕ → Local = λ x. among_definitions i (c ∷ ds) x (other x) in
-    let named = defined_lack i c.name ds d.0 in
-    (ap (λ b. if b then body_of i c.body else f c.name) (bytes_self c.name),
-    passed_on f g (λ x. x ≢ c.name) (map (definition_item i) ds) (λ x n. ap (λ b. if b then body_of i c.body else f x) (tells_apart c.name x (λ s. n (sym s)))) named (definitions_local i ds other d.1))
+    let named = defined_lack i c.name ds d.0 in (
+      ap (λ b. if b then body_of i c.body else f c.name) (bytes_self c.name),
+      passed_on f g (λ x. x ≢ c.name) (map (definition_item i) ds) (λ x n. ap (λ b. if b then body_of i c.body else f x) (tells_apart c.name x (λ s. n (sym s)))) named (definitions_local i ds other d.1),
+    )
   where
     defined_lack : (i : ℕ) (x : List ℕ) (ds : List PlainDefinition) → Lacks (map name_of (map definition_declared ds)) x → AllByRecursion (λ m. m.name ≢ x) (map (definition_item i) ds)
     defined_lack i x [] n = tt
