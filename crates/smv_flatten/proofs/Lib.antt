@@ -1,3 +1,4 @@
 pub mod InvariantLengths
 pub mod Lists
 pub mod Models
+pub mod ItemNumbers

@@ -1,5 +1,5 @@
 -- The parts of the flat form of an accepted model's instances are of that model.
-use Rattle.std.proofs.Common.{ℕ, ◌<◌, ◌^◌, List, length, map, arith}
+use Rattle.std.proofs.Common.{◌≡◌, ℕ, ◌<◌, ◌^◌, List, length, map, sym, subst, arith}
 use Rattle.std.proofs.lemmas.List.{length-map}
 use Rattle.smv_text.specs.Tree.{PlainSource}
 use Rattle.smv_meaning.specs.Instances.{instances_of}
@@ -8,7 +8,10 @@ use Rattle.smv_instances.specs.declared.instances.Instance.{Instance}
 use Rattle.smv_instances.specs.View.{instance_plain}
 use Rattle.smv_items.specs.Counts.{AreFew}
 use Rattle.smv_items.specs.laws.Counting as counting
-use Rattle.smv_flatten.specs.FlatModel.{IsRead, AreOfModel}
+use Rattle.smv_flat.specs.FlatForms.{PlainFlat}
+use Rattle.smv_flat_laws.specs.FlatOrders.{IsItemOrder}
+use Rattle.smv_flat_laws.proofs.ItemOrders.{item_order_held}
+use Rattle.smv_flatten.specs.FlatModel.{FlatModel, flat_plain, IsRead, AreOfModel, IsOrdered}
 
 pub are_of_model : (source : PlainSource) (needed : ℕ) → IsRead source → IsAccepted source needed → AreOfModel (instances_of source)
 are_of_model source needed read accepted f form width weight invariants =
@@ -23,3 +26,11 @@ few_instances t h =
     let l = length-map t instance_plain in
     let n = h.instances in
     omega (arith, l, n)
+
+-- ---- its order
+
+pub ordered : (f : FlatModel) (flat : PlainFlat) (order ks : List ℕ) → IsItemOrder flat order → flat_plain f ≡ flat → ks ≡ order → ∥ IsOrdered f ks ∥₁
+ordered f flat order ks o e is = ∣ subst (λ (x : PlainFlat). IsItemOrder x ks) (sym e) (subst (IsItemOrder flat) (sym is) o) ∣₁
+
+pub order_held : (f : FlatModel) (order ks : List ℕ) → ∥ IsOrdered f order ∥₁ → ks ≡ order → IsOrdered f ks
+order_held f order ks h is = subst (IsOrdered f) (sym is) (item_order_held (flat_plain f) order h)

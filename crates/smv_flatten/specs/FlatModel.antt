@@ -13,6 +13,7 @@ use Rattle.smv_flat.specs.declared.forms.FlatFormula.{FlatFormula}
 use Rattle.smv_flat.specs.FlatForms.{PlainFlat, flat_of, flat_smv}
 use Rattle.smv_flat.specs.FlatFormulas.{form_plain}
 use Rattle.smv_items.specs.FlatItemView.{item_plain}
+use Rattle.smv_flat_laws.specs.FlatOrders.{IsItemOrder}
 use Rattle.smv_width.specs.FlatWidth.{width_of}
 
 -- the items and formulas of the code; integers have as many bits as the width says, and the weight counts the tokens of the modules' bodies over all instances
@@ -27,6 +28,10 @@ pub record FlatModel : Type 0 where
 -- the flat form alone
 abbrev pub flat_plain : FlatModel → PlainFlat
 flat_plain f = record { items = map item_plain f.items; symbols = f.symbols; forms = map form_plain f.formulas }
+
+-- an order of the flat form's items in which each body is after the items that it reads
+abbrev pub IsOrdered : FlatModel → List ℕ → Type 0
+IsOrdered f order = IsItemOrder (flat_plain f) order
 
 -- a text spells the model, and none of its expressions is too high (NuSMV 2.6 User Manual, 2.2 and 2.3; the limit is our own)
 pub record IsRead (source : PlainSource) : Type 0 where

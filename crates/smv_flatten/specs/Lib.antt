@@ -1,4 +1,5 @@
 pub mod Accepting
 pub mod FlatModel
+pub mod Ordering
 pub mod Refusing
 pub mod laws

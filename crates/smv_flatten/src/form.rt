@@ -1,11 +1,12 @@
 // The flat form of a model.
 ghost use Rattle.std.specs.Prelude.{◌≡◌, ◌≤◌};
-ghost use Rattle.smv_flatten.specs.FlatModel.{IsOfModel};
+ghost use Rattle.smv_flatten.specs.FlatModel.{IsOfModel, IsOrdered};
 
 use crate::sequences::{FlatFormulas, FlatItems};
 use name_maps::NameSet;
 use smv_flat::FlatParts;
 use std::marker::Model;
+use text_core::List;
 
 /// The flat form of an accepted model.
 ///
@@ -16,6 +17,7 @@ pub struct Flat {
     pub(crate) items: FlatItems,
     pub(crate) symbols: NameSet,
     pub(crate) formulas: FlatFormulas,
+    pub(crate) order: List<usize>,
     pub(crate) width: u32,
     pub(crate) weight: u32,
     pub(crate) invariants: u32,
@@ -34,8 +36,9 @@ impl Model for Flat {
     ghost view = { λ f. record { items = f.items; symbols = f.symbols; formulas = f.formulas; width = f.width; weight = f.weight; invariants = f.invariants } };
 
     ghost use Rattle.std.specs.Prelude.{◌≤◌};
+    ghost use Rattle.smv_flatten.specs.FlatModel.{IsOrdered};
 
-    ghost invariant = { λ f. (1 ≤ f.width) × (f.width ≤ 64) × ∥ IsOfModel (record { items = f.items; symbols = f.symbols; formulas = f.formulas; width = f.width; weight = f.weight; invariants = f.invariants }) ∥₁ };
+    ghost invariant = { λ f. (1 ≤ f.width) × (f.width ≤ 64) × ∥ IsOfModel (record { items = f.items; symbols = f.symbols; formulas = f.formulas; width = f.width; weight = f.weight; invariants = f.invariants }) ∥₁ × ∥ IsOrdered (record { items = f.items; symbols = f.symbols; formulas = f.formulas; width = f.width; weight = f.weight; invariants = f.invariants }) f.order ∥₁ };
 }
 
 impl Flat {
@@ -77,6 +80,15 @@ impl Flat {
             symbols: &self.symbols,
             formulas: self.formulas.as_slice(),
         }
+    }
+
+    /// Returns an order of the items in which each body comes after the items that it reads.
+    ///
+    /// It has each definition and each actual once, and no variable.
+    pub fn order(&self) -> &[usize]
+        ensures { IsOrdered self.now result.now }
+    {
+        self.order.as_slice()
     }
 
     /// Returns the width of an integer in bits, from 1 to 64.

@@ -10,6 +10,7 @@ mod item_types;
 mod joining;
 mod kept;
 mod members;
+mod ordering;
 mod sequences;
 mod type_names;
 

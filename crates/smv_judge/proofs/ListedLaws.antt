@@ -16,8 +16,8 @@ use Rattle.smv_flat.specs.FlatForms.{PlainFlat}
 use Rattle.smv_rows.specs.Listed.{are_named_after, lists_label, AreListed}
 use Rattle.smv_rows.specs.RowOrders.{is_input}
 use Rattle.smv_rows.specs.declared.order.RowOrder.{RowOrder}
-use Rattle.smv_rows.specs.declared.parts.FlatParts.{FlatParts}
-use Rattle.smv_rows.specs.Parts.{parts_plain}
+use Rattle.smv_flat.specs.declared.parts.FlatParts.{FlatParts}
+use Rattle.smv_flat.specs.FlatParts.{parts_plain}
 use Rattle.smv_judge.specs.Labels.{first_value, given_first, first_label}
 use Rattle.smv_judge.specs.Models.{IsFlatOf, IsListedRun, CanGive, AllListed}
 use Rattle.smv_judge.proofs.FitLaws.{names_same}

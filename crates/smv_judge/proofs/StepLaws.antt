@@ -31,13 +31,11 @@ use Rattle.smv_operators.specs.declared.seen.Seen.{Seen}
 use Rattle.smv_flat_evaluation.specs.RowValues.{row_values}
 use Rattle.smv_flat_evaluation.specs.FlatSafety.{FormsSafe}
 use Rattle.smv_flat_evaluation.proofs.SafeForms.{forms_are_safe_law}
-use Rattle.smv_rows.specs.declared.parts.FlatParts.{FlatParts}
-use Rattle.smv_rows.specs.Parts.{parts_plain}
+use Rattle.smv_flat.specs.declared.parts.FlatParts.{FlatParts}
+use Rattle.smv_flat.specs.FlatParts.{parts_plain}
 use Rattle.smv_rows.specs.Places.{IsGiven}
-use Rattle.smv_rows.specs.RowOrders.{IsOrderly}
 use Rattle.smv_rows.specs.Truths.{CanFill, RowsAreSafe}
 use Rattle.smv_rows.proofs.Sets.{same}
-use Rattle.smv_rows.proofs.FlatOrders.{flat_is_orderly_law}
 use Rattle.smv_judge.specs.Fits.{items_fit}
 use Rattle.smv_judge.specs.Labels.{first_label}
 use Rattle.smv_judge.specs.Models.{IsFlatOf, HasModel, failing, first_clauses, LabelFits, StateFits}
@@ -52,9 +50,6 @@ words source flat m = words_fit_law source m.read.end m.read.text m.read.tokens 
 declared : (source : PlainSource) (flat : PlainFlat) → IsFlatOf source flat → AllDeclared (origins_of (instances_of source))
 declared source flat m =
     origins_declared (names_in (instances_of source)) source m.read.end m.read.tokens m.read.spelled (accepted_is_checked_law source m.needed m.accepted).types
-
-pub is_orderly : (flat : PlainFlat) (source : PlainSource) → IsFlatOf source flat → IsOrderly flat
-is_orderly flat source m = subst IsOrderly (sym m.form) (flat_is_orderly_law source m.needed m.accepted)
 
 pub own_label : (flat : PlainFlat) (source : PlainSource) → IsFlatOf source flat → IsTrue (label_fits (instances_of source) (given (first_label flat.items)))
 own_label flat source m =

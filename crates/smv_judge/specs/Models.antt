@@ -17,10 +17,10 @@ use Rattle.smv_flat_laws.specs.FlatTruth.{IsRow}
 use Rattle.smv_operators.specs.declared.seen.Seen.{Seen}
 use Rattle.smv_flat_evaluation.specs.RowValues.{row_values}
 use Rattle.smv_flatten.specs.FlatModel.{IsRead}
-use Rattle.smv_rows.specs.declared.parts.FlatParts.{FlatParts}
+use Rattle.smv_flat.specs.declared.parts.FlatParts.{FlatParts}
 use Rattle.smv_rows.specs.declared.order.RowOrder.{RowOrder}
 use Rattle.smv_rows.specs.Listed.{lists_state, lists_label, AreListed}
-use Rattle.smv_rows.specs.Parts.{parts_plain}
+use Rattle.smv_flat.specs.FlatParts.{parts_plain}
 
 -- a text spells the model, its checks hold, and this is its flat form
 pub record IsFlatOf (source : PlainSource) (flat : PlainFlat) : Type 0 where

@@ -8,8 +8,9 @@ ghost use Rattle.smv_meaning.specs.Instances.{instances_of};
 ghost use Rattle.smv_meaning.specs.Phases.{IsAccepted};
 ghost use Rattle.smv_meaning.specs.Runs.{judged_after, judged_smv};
 ghost use Rattle.smv_flat_laws.specs.FlatTruth.{Row as PlainRow, IsRow};
+ghost use Rattle.smv_flat_laws.specs.FlatOrders.{IsItemOrder};
 ghost use Rattle.smv_flatten.specs.FlatModel.{IsRead, flat_plain};
-ghost use Rattle.smv_rows.specs.Parts.{parts_plain};
+ghost use Rattle.smv_flat.specs.FlatParts.{parts_plain};
 ghost use Rattle.smv_rows.specs.RowOrders.{IsRowOrder};
 ghost use Rattle.smv_judge.specs.Labels.{first_label as label_of};
 ghost use Rattle.smv_judge.specs.Models.{IsFlatOf, HasModel, CanGive, AllListed, IsListedRun, LabelFits, StateFits, IsStateRow};
@@ -18,9 +19,10 @@ ghost use Rattle.smv_judge.specs.Taken.{HasTaken};
 use crate::labels::first_label;
 use crate::steps::{first_failure, step_failure};
 use crate::taken::{NoRows, TakesRows};
+use smv_flat::FlatParts;
 use smv_flatten::{Flat, FlatEnd, flatten};
 use smv_meaning::{Run, State};
-use smv_rows::{FlatParts, Row, RowOrder, is_broken, row_order};
+use smv_rows::{Row, RowOrder, is_broken, row_order};
 use smv_text::Source;
 use std::alloc::Global;
 use std::mem;
@@ -107,6 +109,7 @@ fn judge_steps<'a, T: TakesRows>(
 fn judge_parts<'a, T: TakesRows>(
     alloc: Global,
     flat: &FlatParts<'a>,
+    item_order: &'a [usize],
     label: &'a State,
     j: u32,
     run: &'a Run,
@@ -114,6 +117,7 @@ fn judge_parts<'a, T: TakesRows>(
     taker: &mut T,
 ) -> Result<Verdict, NoMemory>
     requires model { HasModel flat.now }
+    requires order { IsItemOrder (parts_plain flat.now) item_order.now }
     requires label { LabelFits flat.now (given label.now) }
     requires listed { listed ≡ true → AllListed (parts_plain flat.now).items run.now.states run.now.labels label.now }
     requires few { length run.now.states < 2 ^ 32 }
@@ -121,7 +125,7 @@ fn judge_parts<'a, T: TakesRows>(
     ensures taken { IfOk result (λ v. v ≡ Yes → HasTaken (λ rows. T.took taker.old rows taker.new) (parts_plain flat.now) label.now run.now.states run.now.labels) }
     ensures verdict { IfOk result (λ v. (source : PlainSource) → IsFlatOf source (parts_plain flat.now) → v ≡ judged_smv source j (map given run.now.states) (map given run.now.labels)) }
 {
-    let order = row_order(alloc, flat, listed)?;
+    let order = row_order(alloc, flat, item_order, listed)?;
     let Some((first, following)) = run.states.as_slice().split_first() else {
         return Ok(Verdict::No(0, Clause::ValueOutside));
     };
@@ -164,13 +168,9 @@ pub fn judge_rows<T: TakesRows>(
     // All rows were taken, where the verdict is Yes.
     ensures taken { IfOk result (λ v. v ≡ Yes → HasTaken (λ rows. T.took taker.old rows taker.new) (flat_plain flat.now) (label_of (flat_plain flat.now).items) run.now.states run.now.labels) }
 {
-    let parts = FlatParts {
-        items: flat.items().as_slice(),
-        symbols: flat.symbols(),
-        formulas: flat.formulas().as_slice(),
-    };
+    let parts = flat.parts();
     let label = first_label(alloc, parts.items)?;
-    judge_parts(alloc, &parts, &label, j, run, listed, taker)
+    judge_parts(alloc, &parts, flat.order(), &label, j, run, listed, taker)
 }
 
 /// Returns the verdict on a stated run for a flat form and invariant j, counted from 0.

@@ -5,14 +5,15 @@ ghost use Rattle.smv_meaning.specs.Values.{given};
 ghost use Rattle.smv_meaning.specs.Instances.{instances_of};
 ghost use Rattle.smv_flat_laws.specs.FlatTruth.{IsRow, flat_trans, flat_stay};
 ghost use Rattle.smv_flat_evaluation.specs.RowValues.{row_values};
-ghost use Rattle.smv_rows.specs.Parts.{parts_plain};
+ghost use Rattle.smv_flat.specs.FlatParts.{parts_plain};
 ghost use Rattle.smv_rows.specs.RowOrders.{IsRowOrder};
 ghost use Rattle.smv_rows.specs.Truths.{AllSafe};
 ghost use Rattle.smv_judge.specs.Models.{IsFlatOf, HasModel, failing, first_clauses, step_clauses, CanGive, LabelFits, IsStateRow};
 
 use crate::fits::items_fit;
+use smv_flat::FlatParts;
 use smv_meaning::State;
-use smv_rows::{FlatParts, Row, RowOrder, frozen_stay, init_holds, invar_holds, trans_holds};
+use smv_rows::{Row, RowOrder, frozen_stay, init_holds, invar_holds, trans_holds};
 use text_core::{Clause, NoMemory};
 
 /// Returns the first clause that fails at the first state, or None.

@@ -6,7 +6,7 @@ use Rattle.smv_meaning.specs.Operators.{implied, signed, selected, called}
 use Rattle.smv_meaning.specs.Expressions.{Denotation, alone, set_of, joined}
 use Rattle.smv_meaning.specs.laws.Booleans.{both_true}
 use Rattle.smv_flat.specs.FlatTree.{FlatTree, flat_truth, flat_number, flat_literal, flat_symbol, flat_item, flat_prefix, flat_chain, flat_choice, flat_cases, flat_select, flat_call, flat_set, flat_range, FlatLinks, no_flat_links, flat_link, FlatBranches, no_flat_branches, flat_branch, FlatTrees, no_flat_trees, flat_tree_then, flat_from_right, flat_is_last, flat_denote, flat_implications, flat_linked, flat_chosen, flat_taken, flat_values, flat_permits}
-use Rattle.smv_rows.specs.Reading.{all_read, links_read, branches_read, trees_read}
+use Rattle.smv_flat_laws.specs.FlatOrders.{all_read, links_read, branches_read, trees_read}
 
 pick : {X : Type 0} (b : Bool) (x y z w : X) → x ≡ z → y ≡ w → (if b then x else y) ≡ (if b then z else w)
 pick true x y z w h k = h

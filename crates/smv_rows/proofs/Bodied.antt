@@ -1,7 +1,7 @@
 -- Bodies that are added one after another.
 use Rattle.std.proofs.Common.{◌≡◌, ℕ, ◌<◌, ◌⊎◌, inl, inr, Bool, true, false, not, ◌&&◌, ◌||◌, ◌==◌, nat_lt, List, [], ◌∷◌, ◌++◌, map, length, Option, Some, None, option_map, refl, sym, ap, ◌∙◌, subst}
 use Rattle.std.specs.Borrow.{Bor}
-use Rattle.std.specs.List.{slice_get, AllByRecursion}
+use Rattle.std.specs.List.{slice_get, list_all, AllByRecursion}
 use Rattle.std.proofs.lemmas.List.{length-map}
 use Rattle.std.proofs.lemmas.Option.{slice_get-map, slice_get_within}
 use Rattle.digraph.specs.Graph.{is_in, are_distinct}
@@ -12,12 +12,12 @@ use Rattle.smv_items.specs.FlatItems.{PlainFlatItem}
 use Rattle.smv_items.specs.FlatItemView.{item_plain}
 use Rattle.smv_flat.specs.declared.expressions.FlatExpr.{FlatExpr}
 use Rattle.smv_flat.specs.FlatTree.{FlatTree}
-use Rattle.smv_flat.specs.FlatForms.{Form}
+use Rattle.smv_flat.specs.FlatForms.{Form, PlainFlat}
 use Rattle.smv_flat.specs.declared.forms.Role.{Role}
 use Rattle.smv_flat.specs.declared.forms.Role.TheVariants.{Body, Assign, Init, Trans, Invar, Invariant}
-use Rattle.smv_rows.specs.Reading.{all_read}
-use Rattle.smv_rows.specs.Filling.{Bodies, bodies_in}
-use Rattle.smv_rows.specs.RowOrders.{IsRoleBody, HaveBodies, Extends, CanAdd, Added, IsAmong, ComeFrom, holds_body, VariablesAreFree, role_number, body_numbers, RoleRanked, FormRanked, AreItemBodies, HaveRanks}
+use Rattle.smv_flat_laws.specs.FlatOrders.{Bodies, IsAmong, ComeFrom, holds_body, RoleHolds, FormHolds, role_number, body_numbers, IsItemOrder}
+use Rattle.smv_rows.specs.Filling.{bodies_in}
+use Rattle.smv_rows.specs.RowOrders.{IsRoleBody, HaveBodies, Extends, CanAdd, Added, VariablesAreFree, AreItemBodies, IsOrderOf}
 use Rattle.smv_rows.proofs.Sets.{own}
 use Rattle.digraph.proofs.Lists.{not_true}
 
@@ -100,31 +100,31 @@ holds_within kinds k h = by (slice_get kinds k) refl h
     by None e g = cc
     by (Some kind) e g = slice_get_within kinds k kind e
 
-pub can_add : (items : List FlatItem) (rank : ℕ → ℕ) (bodies : List (Option (Bor FlatExpr))) (r : Role) (e : FlatTree) (ks : List ℕ) → length bodies ≡ length items
-    → RoleRanked (map (λ m. m.kind) items) rank r e → ((k : ℕ) → is_in (role_number r ++ ks) k ≡ true → bodies_in bodies k ≡ None) → CanAdd bodies r
-can_add items rank bodies (Body k) e ks size ranked free =
-    let low = holds_within (map (λ m. m.kind) items) k ranked.0 in
+pub can_add : (items : List FlatItem) (bodies : List (Option (Bor FlatExpr))) (r : Role) (ks : List ℕ) → length bodies ≡ length items
+    → RoleHolds (map (λ m. m.kind) items) r → ((k : ℕ) → is_in (role_number r ++ ks) k ≡ true → bodies_in bodies k ≡ None) → CanAdd bodies r
+can_add items bodies (Body k) ks size held free =
+    let low = holds_within (map (λ m. m.kind) items) k held in
     (subst (λ n. k < n) (length-map items (λ m. m.kind) ∙ sym size) low, free k (or_front (k == k) (is_in ks k) (own k)))
-can_add items rank bodies (Assign w k) e ks size ranked free = tt
-can_add items rank bodies Init e ks size ranked free = tt
-can_add items rank bodies Trans e ks size ranked free = tt
-can_add items rank bodies Invar e ks size ranked free = tt
-can_add items rank bodies Invariant e ks size ranked free = tt
+can_add items bodies (Assign w k) ks size held free = tt
+can_add items bodies Init ks size held free = tt
+can_add items bodies Trans ks size held free = tt
+can_add items bodies Invar ks size held free = tt
+can_add items bodies Invariant ks size held free = tt
 
 -- ---- what was added
 
-pub among_ranked : (kinds : List ItemKind) (rank : ℕ → ℕ) (fs : List Form) → AllByRecursion (FormRanked kinds rank) fs → (k : ℕ) (e : FlatTree) → IsAmong k e fs → RoleRanked kinds rank (Body k) e
-among_ranked kinds rank [] r k e i = absurd i
-among_ranked kinds rank (f ∷ fs) r k e (inl s) = subst (λ x. RoleRanked kinds rank x e) s.0 (subst (λ x. RoleRanked kinds rank f.role x) s.1 r.0)
-among_ranked kinds rank (f ∷ fs) r k e (inr s) = among_ranked kinds rank fs r.1 k e s
+among_held : (kinds : List ItemKind) (fs : List Form) → AllByRecursion (FormHolds kinds) fs → (k : ℕ) (e : FlatTree) → IsAmong k e fs → holds_body (slice_get kinds k) ≡ true
+among_held kinds [] r k e i = absurd i
+among_held kinds (f ∷ fs) r k e (inl s) = subst (λ x. RoleHolds kinds x) s.0 r.0
+among_held kinds (f ∷ fs) r k e (inr s) = among_held kinds fs r.1 k e s
 
-pub variables_free : (items : List FlatItem) (rank : ℕ → ℕ) (fs : List Form) (bodies : Bodies) → AllByRecursion (FormRanked (map (λ m. m.kind) items) rank) fs → ComeFrom bodies fs → VariablesAreFree bodies items
-variables_free items rank fs bodies r c k m there v = by (bodies k) refl
+pub variables_free : (items : List FlatItem) (fs : List Form) (bodies : Bodies) → AllByRecursion (FormHolds (map (λ m. m.kind) items)) fs → ComeFrom bodies fs → VariablesAreFree bodies items
+variables_free items fs bodies r c k m there v = by (bodies k) refl
   where
     by : (o : Option FlatTree) → bodies k ≡ o → bodies k ≡ None
     by None e = e
     by (Some b) e =
-        let h = (among_ranked (map (λ m. m.kind) items) rank fs r k b (c k b e)).0 in
+        let h = among_held (map (λ m. m.kind) items) fs r k b (c k b e) in
         let at : slice_get (map (λ m. m.kind) items) k ≡ Some m.kind = slice_get-map (λ m. m.kind) items k ∙ ap (option_map (λ m. m.kind)) there in
         let g : holds_body (Some m.kind) ≡ true = subst (λ o. holds_body o ≡ true) at h in
         let n : not true ≡ true = subst (λ b. not b ≡ true) v g in cc
@@ -135,14 +135,14 @@ kinds_same : (items : List FlatItem) → map {A = PlainFlatItem} (λ m. m.kind) 
 kinds_same [] = refl
 kinds_same (m ∷ ms) = ap (λ ks. m.kind ∷ ks) (kinds_same ms)
 
-pub forms_ranked : (items : List FlatItem) (rank : ℕ → ℕ) (fs : List Form) → AllByRecursion (FormRanked (map {A = PlainFlatItem} (λ m. m.kind) (map item_plain items)) rank) fs
-    → AllByRecursion (FormRanked (map {A = FlatItem} (λ m. m.kind) items) rank) fs
-forms_ranked items rank fs h = subst (λ ks. AllByRecursion (FormRanked ks rank) fs) (kinds_same items) h
+pub forms_held : (items : List FlatItem) (fs : List Form) → AllByRecursion (FormHolds (map {A = PlainFlatItem} (λ m. m.kind) (map item_plain items))) fs
+    → AllByRecursion (FormHolds (map {A = FlatItem} (λ m. m.kind) items)) fs
+forms_held items fs h = subst (λ ks. AllByRecursion (FormHolds ks) fs) (kinds_same items) h
 
-pub bodies_ranked : (items : List FlatItem) (rank : ℕ → ℕ) (fs : List Form) (bodies : List (Option (Bor FlatExpr))) → AllByRecursion (FormRanked (map {A = FlatItem} (λ m. m.kind) items) rank) fs
-    → AreItemBodies items fs bodies → HaveRanks bodies
-bodies_ranked items rank fs bodies r a = (
-  rank,
-  λ k e h. subst (λ n. all_read (λ m. nat_lt m n && nat_lt (rank m) (rank k)) e ≡ true) (length-map items (λ m. m.kind) ∙ sym a.size)
-      (among_ranked (map (λ m. m.kind) items) rank fs r k e (a.only k e h)).1,
-)
+-- an order of the flat form's items is one of the bodies
+pub order_is : (flat : PlainFlat) (items : List FlatItem) (bodies : List (Option (Bor FlatExpr))) (order : List ℕ) → flat.items ≡ map item_plain items → AreItemBodies items flat.forms bodies → IsItemOrder flat order → IsOrderOf bodies order
+order_is flat items bodies order same a o = record {
+  within = subst (λ n. list_all (λ k. nat_lt k n) order ≡ true) (ap length same ∙ length-map items item_plain ∙ sym a.size) o.within;
+  settled = o.settled (bodies_in bodies) a.only;
+  whole = o.whole (bodies_in bodies) a.only;
+}

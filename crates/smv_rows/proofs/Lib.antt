@@ -4,14 +4,10 @@ pub mod SafeAgreeing
 pub mod Filled
 pub mod SafeFilled
 pub mod SafeInvariants
-pub mod Ordering
-pub mod Ranks
 pub mod Bodied
 pub mod Named
-pub mod ReadParts
 pub mod VariableRows
 pub mod RowLaw
 pub mod Relabelled
 pub mod InOrder
-pub mod FlatOrders
 pub mod Inputs

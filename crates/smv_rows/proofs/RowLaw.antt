@@ -32,23 +32,23 @@ gives_is o s l sv lv values places h g state label se le pe values_are items hav
     }
 
 -- the code's bodies and order are those of the way in which rows are filled
-pub filled_is : (flat : FlatParts) (o : RowOrder) → IsRowOrder flat o → (values new : List Seen) (bodies : List (Option (Bor FlatExpr))) (order : List ℕ) → bodies ≡ o.bodies.items → order ≡ o.order
+pub filled_is : (flat : FlatParts) (o : RowOrder) → IsRowOrder flat o → (values new : List Seen) (bodies : List (Option (Bor FlatExpr))) (order : List ℕ) → bodies ≡ o.bodies.items → order ≡ o.order.now
     → row_values new ≡ filled (bodies_in bodies) (symbol_value flat.symbols.now) (row_values values) order → Fills flat values new
 filled_is flat o r values new bodies order be oe end_is s l g =
-    let is : row_values new ≡ filled (bodies_in o.bodies.items) (symbol_value flat.symbols.now) (row_values values) o.order =
+    let is : row_values new ≡ filled (bodies_in o.bodies.items) (symbol_value flat.symbols.now) (row_values values) o.order.now =
     end_is ∙ ap (λ (x : List (Option (Bor FlatExpr))). filled (bodies_in x) (symbol_value flat.symbols.now) (row_values values) order) be
     ∙ ap (filled (bodies_in o.bodies.items) (symbol_value flat.symbols.now) (row_values values)) oe in
     subst (λ (x : Row). IsRow (parts_plain flat) s l x) (sym is)
-    (row_meets (parts_plain flat) flat.items.now (bodies_in o.bodies.items) o.order s l (row_values values) refl r.bodies.have r.bodies.free r.order.settled r.order.whole g.variables)
+    (row_meets (parts_plain flat) flat.items.now (bodies_in o.bodies.items) o.order.now s l (row_values values) refl r.bodies.have r.bodies.free r.order.settled r.order.whole g.variables)
 
 -- the bodies are evaluated safely, where they are so in the row of the state and the label
-pub fills_so : (flat : FlatParts) (o : RowOrder) → IsRowOrder flat o → (values : List Seen) (bodies : List (Option (Bor FlatExpr))) (order : List ℕ) → bodies ≡ o.bodies.items → order ≡ o.order
+pub fills_so : (flat : FlatParts) (o : RowOrder) → IsRowOrder flat o → (values : List Seen) (bodies : List (Option (Bor FlatExpr))) (order : List ℕ) → bodies ≡ o.bodies.items → order ≡ o.order.now
     → CanFill flat values → FillsSafely (bodies_in bodies) (symbol_value flat.symbols.now) (row_values values) order
 fills_so flat o r values bodies order be oe can =
-    let own = filled (bodies_in o.bodies.items) (symbol_value flat.symbols.now) (row_values values) o.order in
-    let row = row_meets (parts_plain flat) flat.items.now (bodies_in o.bodies.items) o.order can.0 can.1 (row_values values) refl r.bodies.have r.bodies.free r.order.settled r.order.whole can.2.variables in
+    let own = filled (bodies_in o.bodies.items) (symbol_value flat.symbols.now) (row_values values) o.order.now in
+    let row = row_meets (parts_plain flat) flat.items.now (bodies_in o.bodies.items) o.order.now can.0 can.1 (row_values values) refl r.bodies.have r.bodies.free r.order.settled r.order.whole can.2.variables in
     let fine = can.3 own row in
-    let safe = fills_safely (bodies_in o.bodies.items) (symbol_value flat.symbols.now) (row_values values) o.order r.order.settled
+    let safe = fills_safely (bodies_in o.bodies.items) (symbol_value flat.symbols.now) (row_values values) o.order.now r.order.settled
     (λ k e is. among_safe (parts_plain flat) own own (parts_plain flat).forms fine k e (r.bodies.only k e is)) in
     subst (λ (ks : List ℕ). FillsSafely (bodies_in bodies) (symbol_value flat.symbols.now) (row_values values) ks) (sym oe)
-    (subst (λ (bs : List (Option (Bor FlatExpr))). FillsSafely (bodies_in bs) (symbol_value flat.symbols.now) (row_values values) o.order) (sym be) safe)
+    (subst (λ (bs : List (Option (Bor FlatExpr))). FillsSafely (bodies_in bs) (symbol_value flat.symbols.now) (row_values values) o.order.now) (sym be) safe)

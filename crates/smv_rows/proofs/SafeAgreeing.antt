@@ -7,7 +7,7 @@ use Rattle.smv_meaning.specs.Safety.{Fits, front_value}
 use Rattle.smv_meaning.specs.laws.Booleans.{both_true}
 use Rattle.smv_flat.specs.FlatTree.{FlatTree, flat_truth, flat_number, flat_literal, flat_symbol, flat_item, flat_prefix, flat_chain, flat_choice, flat_cases, flat_select, flat_call, flat_set, flat_range, FlatLinks, no_flat_links, flat_link, FlatBranches, no_flat_branches, flat_branch, FlatTrees, no_flat_trees, flat_tree_then, flat_denote}
 use Rattle.smv_flat_evaluation.specs.FlatSafety.{FlatSafe, FlatSafeLinks, FlatSafeOperands, FlatSafeBranches, FlatSafeTrees}
-use Rattle.smv_rows.specs.Reading.{all_read, links_read, branches_read, trees_read}
+use Rattle.smv_flat_laws.specs.FlatOrders.{all_read, links_read, branches_read, trees_read}
 use Rattle.smv_rows.proofs.Agreeing.{Agree, denote_same, values_same}
 
 mutual

@@ -7,8 +7,8 @@ use Rattle.smv_flat.specs.FlatTree.{FlatTree}
 use Rattle.smv_flat.specs.FlatForms.{Form, PlainFlat}
 use Rattle.smv_flat_laws.specs.FlatTruth.{Row, symbol_value}
 use Rattle.smv_flat_evaluation.specs.FlatSafety.{FlatSafe, FormsSafe}
-use Rattle.smv_rows.specs.Filling.{Bodies, with_body, filled, BodySafe, FillsSafely}
-use Rattle.smv_rows.specs.RowOrders.{body_reads, is_settled, IsAmong}
+use Rattle.smv_flat_laws.specs.FlatOrders.{Bodies, body_reads, is_settled, IsAmong}
+use Rattle.smv_rows.specs.Filling.{with_body, filled, BodySafe, FillsSafely}
 use Rattle.smv_rows.proofs.Filled.{filled_out}
 use Rattle.smv_rows.proofs.SafeAgreeing.{safe_same}
 use Rattle.digraph.proofs.Lists.{not_true}

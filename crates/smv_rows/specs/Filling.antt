@@ -6,11 +6,8 @@ use Rattle.smv_flat.specs.FlatTree.{FlatTree, flat_denote}
 use Rattle.smv_flat.specs.FlatView.{plain_flat}
 use Rattle.smv_meaning.specs.declared.value.Value.{Value}
 use Rattle.smv_flat_laws.specs.FlatTruth.{Row}
+use Rattle.smv_flat_laws.specs.FlatOrders.{Bodies}
 use Rattle.smv_flat_evaluation.specs.FlatSafety.{FlatSafe}
-
--- the body of each item that has one
-abbrev pub Bodies : Type 0
-Bodies = ℕ → Option FlatTree
 
 abbrev pub body_plain : Option (Bor FlatExpr) → Option FlatTree
 body_plain None = None

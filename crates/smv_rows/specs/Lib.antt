@@ -1,4 +1,3 @@
-pub mod Reading
 pub mod Filling
 pub mod Places
 pub mod RowOrders

@@ -5,8 +5,9 @@ ghost use Rattle.digraph.specs.Graph.{are_distinct};
 ghost use Rattle.smv_flat.specs.FlatView.{plain_flat};
 ghost use Rattle.smv_flat.specs.FlatFormulas.{form_plain};
 ghost use Rattle.smv_flat.specs.declared.forms.Role.TheVariants as OfRole;
+ghost use Rattle.smv_flat_laws.specs.FlatOrders.{FormHolds, body_numbers};
 ghost use Rattle.smv_rows.specs.Filling.{bodies_in};
-ghost use Rattle.smv_rows.specs.RowOrders.{FormRanked, body_numbers, AreItemBodies, CanAdd, Added};
+ghost use Rattle.smv_rows.specs.RowOrders.{AreItemBodies, CanAdd, Added};
 
 use smv_flat::{FlatExpr, FlatFormula, Role};
 use smv_items::FlatItem;
@@ -19,7 +20,8 @@ pub(crate) fn bodies_of<'f>(
     items: &[FlatItem],
     formulas: &'f [FlatFormula],
 ) -> Result<Vec<Option<&'f FlatExpr>>, NoMemory>
-    requires ranked { (rank : ℕ → ℕ) × AllByRecursion (FormRanked (map (λ m. m.kind) items.now) rank) (map form_plain formulas.now) }
+    // Only definitions and actuals have bodies, and none has two.
+    requires held { AllByRecursion (FormHolds (map (λ m. m.kind) items.now)) (map form_plain formulas.now) }
     requires apart { are_distinct (body_numbers (map form_plain formulas.now)) ≡ true }
     ensures { IfOk result (λ bodies. AreItemBodies items.now (map form_plain formulas.now) bodies.items) }
 {

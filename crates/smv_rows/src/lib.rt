@@ -2,17 +2,13 @@
 #![tactic(auto)]
 
 mod bodies;
-mod laws;
 mod listed;
 mod order;
 mod places;
-mod reading;
-mod references;
 mod row;
 mod truth;
 mod variables;
 
-pub use laws::flat_is_orderly;
 pub use order::{RowOrder, row_order};
 pub use places::ItemPlace;
 pub use row::Row;

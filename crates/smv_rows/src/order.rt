@@ -1,16 +1,16 @@
 // The data needed to fill rows of a flat form.
 ghost use Rattle.std.specs.Prelude.{◌≡◌, IfOk};
+ghost use Rattle.smv_flat_laws.specs.FlatOrders.{IsItemOrder};
 ghost use Rattle.smv_flat.specs.FlatParts.{parts_plain};
-ghost use Rattle.smv_rows.specs.RowOrders.{IsOrderly, IsRowOrder, has_inputs, is_input};
+ghost use Rattle.smv_rows.specs.RowOrders.{IsRowOrder, has_inputs, is_input};
 
 use crate::bodies::bodies_of;
 use crate::places::{ItemPlace, name_all, places_of};
-use crate::references::order_of;
 use name_maps::NameTable;
 use smv_flat::{FlatExpr, FlatParts};
 use smv_items::{FlatItem, ItemKind};
 use std::alloc::Global;
-use text_core::{List, NoMemory};
+use text_core::NoMemory;
 
 /// The data needed to fill rows of a flat form.
 ///
@@ -21,7 +21,7 @@ use text_core::{List, NoMemory};
 #[derive(Drop)]
 pub struct RowOrder<'f> {
     pub bodies: Vec<Option<&'f FlatExpr>>,
-    pub order: List<usize>,
+    pub order: &'f [usize],
     pub names: NameTable,
     pub places: Vec<ItemPlace>,
     pub inputs: bool,
@@ -57,18 +57,19 @@ fn has_inputs(items: &[FlatItem]) -> bool
 
 /// Returns the data needed to fill rows of the flat form.
 ///
-/// `listed` says that states and labels will have their values in the order of the items.
+/// `order` is an order of the items in which each body comes after the items that it reads, as `Flat::order` returns
+/// it. `listed` says that states and labels will have their values in the order of the items.
 pub fn row_order<'f>(
     alloc: Global,
     flat: &FlatParts<'f>,
+    order: &'f [usize],
     listed: bool,
 ) -> Result<RowOrder<'f>, NoMemory>
-    requires { IsOrderly (parts_plain flat.now) }
+    requires { IsItemOrder (parts_plain flat.now) order.now }
     ensures order { IfOk result (IsRowOrder flat.now) }
     ensures listed { IfOk result (λ o. o.listed ≡ listed) }
 {
     let bodies = bodies_of(alloc, flat.items, flat.formulas)?;
-    let order = order_of(alloc, bodies.as_slice())?;
     let inputs = has_inputs(flat.items);
     let mut names = NameTable::new(alloc);
     if listed {

@@ -109,7 +109,7 @@ impl<'a> Row<'a> {
         fill_bodies(
             flat.symbols,
             order.bodies.as_slice(),
-            order.order.as_slice(),
+            order.order,
             &mut self.values,
         );
     }

@@ -1,12 +1,9 @@
 use Rattle.std.proofs.Common.{◌∷◌, sym, ◌∙◌}
-use Rattle.smv_rows.specs.Parts.{parts_plain}
-use Rattle.smv_judge.proofs.StepLaws.{is_orderly, parts_told, first_refused}
+use Rattle.smv_flat.specs.FlatParts.{parts_plain}
+use Rattle.smv_judge.proofs.StepLaws.{parts_told, first_refused}
 use Rattle.smv_judge.proofs.ListedLaws.{first_can, states_are}
 use Rattle.smv_judge.proofs.Takes.{parts_taken}
 use Rattle.smv_judge.proofs.judge.judge_parts.Goals as goal
-
-pub row_order-requires : goal.row_order-requires
-row_order-requires g c = is_orderly (parts_plain c.args.flat.now) c.requires.model.0 c.requires.model.1
 
 pub first_failure-requires-clause-listed : goal.first_failure-requires-clause-listed
 first_failure-requires-clause-listed g c =

@@ -17,6 +17,6 @@ judge_parts-requires-clause-label g c = λ source k.
 
 pub judge_parts-requires-clause-listed : goal.judge_parts-requires-clause-listed
 judge_parts-requires-clause-listed g c = λ is.
-    let items = c.as_slice.ensures ∙ c.items.ensures in
+    let items = c.parts-parts.ensures.items in
     subst (λ (ms : List FlatItem). AllListed (map item_plain ms) c.args.run.now.states c.args.run.now.labels c.in_ok-label.label) (sym items)
     (run_listed _ c.requires.model.0 c.requires.model.1 c.args.run.now c.in_ok-label.label (c.in_ok-label.ensures ∙ ap (λ (ms : List FlatItem). first_label (map item_plain ms)) items) (c.requires.listed is))

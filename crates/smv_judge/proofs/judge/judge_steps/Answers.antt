@@ -5,7 +5,7 @@ use Rattle.smv_meaning.specs.Instances.{instances_of}
 use Rattle.smv_meaning.specs.Runs.{judged_after}
 use Rattle.smv_flat_laws.specs.FlatTruth.{IsRow}
 use Rattle.smv_flat_evaluation.specs.RowValues.{row_values}
-use Rattle.smv_rows.specs.Parts.{parts_plain}
+use Rattle.smv_flat.specs.FlatParts.{parts_plain}
 use Rattle.smv_judge.specs.Models.{step_clauses}
 use Rattle.smv_judge.proofs.StepLaws.{truth_is, rows_safe, rows_true, outside_end, broken_end, none_said, some_said}
 use Rattle.smv_judge.proofs.ListedLaws.{first_can, next_can, rest_listed}

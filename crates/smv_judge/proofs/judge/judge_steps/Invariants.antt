@@ -3,7 +3,7 @@ use Rattle.smv_text.specs.Tree.{PlainSource}
 use Rattle.smv_meaning.specs.Values.{given}
 use Rattle.smv_meaning.specs.Instances.{instances_of}
 use Rattle.smv_meaning.specs.Runs.{judged_after}
-use Rattle.smv_rows.specs.Parts.{parts_plain}
+use Rattle.smv_flat.specs.FlatParts.{parts_plain}
 use Rattle.smv_judge.specs.Models.{IsFlatOf, IsStateRow, AllListed}
 use Rattle.smv_judge.proofs.Takes.{TakenBefore}
 use Rattle.smv_judge.proofs.judge.judge_steps.Given as goal

@@ -6,8 +6,9 @@ use Rattle.digraph.specs.Graph.{are_distinct}
 use Rattle.smv_flat.specs.declared.expressions.FlatExpr.{FlatExpr}
 use Rattle.smv_flat.specs.declared.forms.FlatFormula.{FlatFormula}
 use Rattle.smv_flat.specs.FlatFormulas.{form_plain}
+use Rattle.smv_flat_laws.specs.FlatOrders.{FormHolds, body_numbers}
 use Rattle.smv_rows.specs.Filling.{bodies_in}
-use Rattle.smv_rows.specs.RowOrders.{HaveBodies, Extends, body_numbers, FormRanked}
+use Rattle.smv_rows.specs.RowOrders.{HaveBodies, Extends}
 use Rattle.smv_rows.proofs.Bodied.{AmongAll, RestIsFree, have_on, come_on, free_on, distinct_on, can_add, variables_free}
 use Rattle.smv_rows.proofs.bodies.bodies_of.Goals as goal
 
@@ -15,11 +16,11 @@ pub add_formula-requires : goal.add_formula-requires
 add_formula-requires c =
     let inv = c.loop-formula.invariant in
     let kinds = map (λ m. m.kind) c.args.items.now in
-    let ranked : AllByRecursion (FormRanked kinds inv.ranked.0) (map form_plain (c.in-Some.formula.now ∷ c.in-Some.more.now)) =
-    subst (λ (fs : List FlatFormula). AllByRecursion (FormRanked kinds inv.ranked.0) (map form_plain fs)) c.in-Some.ensures.cases.0 inv.ranked.1 in
+    let held : AllByRecursion (FormHolds kinds) (map form_plain (c.in-Some.formula.now ∷ c.in-Some.more.now)) =
+    subst (λ (fs : List FlatFormula). AllByRecursion (FormHolds kinds) (map form_plain fs)) c.in-Some.ensures.cases.0 inv.held in
     let free : RestIsFree c.loop-formula.bodies.items (map form_plain (c.in-Some.formula.now ∷ c.in-Some.more.now)) =
     subst (λ (fs : List FlatFormula). RestIsFree c.loop-formula.bodies.items (map form_plain fs)) c.in-Some.ensures.cases.0 inv.free in
-    can_add c.args.items.now inv.ranked.0 c.loop-formula.bodies.items (form_plain c.in-Some.formula.now).role (form_plain c.in-Some.formula.now).body (body_numbers (map form_plain c.in-Some.more.now)) inv.size ranked.0 free
+    can_add c.args.items.now c.loop-formula.bodies.items (form_plain c.in-Some.formula.now).role (body_numbers (map form_plain c.in-Some.more.now)) inv.size held.0 free
 
 pub loop-formula-preserved : goal.loop-formula-preserved
 loop-formula-preserved c =
@@ -32,12 +33,12 @@ loop-formula-preserved c =
     let inv = c.loop-formula.invariant in
     let kinds = map (λ m. m.kind) c.args.items.now in
     let split = c.in-Some.ensures.cases.0 in
-    let ranked : AllByRecursion (FormRanked kinds inv.ranked.0) (f ∷ fs) = subst (λ (xs : List FlatFormula). AllByRecursion (FormRanked kinds inv.ranked.0) (map form_plain xs)) split inv.ranked.1 in
+    let held : AllByRecursion (FormHolds kinds) (f ∷ fs) = subst (λ (xs : List FlatFormula). AllByRecursion (FormHolds kinds) (map form_plain xs)) split inv.held in
     let apart : are_distinct (body_numbers (f ∷ fs)) ≡ true = subst (λ (xs : List FlatFormula). are_distinct (body_numbers (map form_plain xs)) ≡ true) split inv.apart in
     let among : AmongAll (f ∷ fs) all = subst (λ (xs : List FlatFormula). AmongAll (map form_plain xs) all) split inv.among in
     record {
       size = a.size ∙ inv.size;
-      ranked = (inv.ranked.0, ranked.1);
+      held = held.1;
       apart = distinct_on f fs apart;
       free = free_on old new f fs a apart (subst (λ (xs : List FlatFormula). RestIsFree old (map form_plain xs)) split inv.free);
       among = λ k e h. among k e (inr h);
@@ -54,6 +55,6 @@ returns c =
     record {
       size = inv.size;
       have = inv.have c.loop-formula.bodies.items (λ k e g. g) (subst (λ (fs : List FlatFormula). HaveBodies (bodies_in c.loop-formula.bodies.items) (map form_plain fs)) (sym end) tt);
-      free = variables_free c.args.items.now c.requires.ranked.0 (map form_plain c.args.formulas.now) (bodies_in c.loop-formula.bodies.items) c.requires.ranked.1 inv.only;
+      free = variables_free c.args.items.now (map form_plain c.args.formulas.now) (bodies_in c.loop-formula.bodies.items) c.requires.held inv.only;
       only = inv.only;
     }

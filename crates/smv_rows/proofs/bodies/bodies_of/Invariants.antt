@@ -4,15 +4,16 @@ use Rattle.std.specs.List.{AllByRecursion}
 use Rattle.digraph.specs.Graph.{are_distinct}
 use Rattle.smv_flat.specs.declared.expressions.FlatExpr.{FlatExpr}
 use Rattle.smv_flat.specs.FlatFormulas.{form_plain}
+use Rattle.smv_flat_laws.specs.FlatOrders.{ComeFrom, FormHolds, body_numbers}
 use Rattle.smv_rows.specs.Filling.{bodies_in}
-use Rattle.smv_rows.specs.RowOrders.{HaveBodies, Extends, ComeFrom, FormRanked, body_numbers}
+use Rattle.smv_rows.specs.RowOrders.{HaveBodies, Extends}
 use Rattle.smv_rows.proofs.Bodied.{AmongAll, RestIsFree}
 use Rattle.smv_rows.proofs.bodies.bodies_of.Given as goal
 
 abbrev pub invariant-loop-formula : goal.invariant-loop-formula
 invariant-loop-formula l = record {
   size : length l.bodies.items ≡ length l.items;
-  ranked : (rank : ℕ → ℕ) × AllByRecursion (FormRanked (map (λ m. m.kind) l.items) rank) (map form_plain l.rest);
+  held : AllByRecursion (FormHolds (map (λ m. m.kind) l.items)) (map form_plain l.rest);
   apart : are_distinct (body_numbers (map form_plain l.rest)) ≡ true;
   free : RestIsFree l.bodies.items (map form_plain l.rest);
   among : AmongAll (map form_plain l.rest) (map form_plain l.fn.formulas);

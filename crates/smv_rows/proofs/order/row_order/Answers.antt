@@ -1,16 +1,24 @@
-use Rattle.std.proofs.Common.{List, Option, map, sym, subst}
-use Rattle.std.specs.Borrow.{Bor}
-use Rattle.smv_flat.specs.declared.expressions.FlatExpr.{FlatExpr}
+use Rattle.std.proofs.Common.{map, refl}
 use Rattle.smv_flat.specs.FlatFormulas.{form_plain}
-use Rattle.smv_rows.specs.RowOrders.{HaveRanks}
-use Rattle.smv_rows.proofs.Bodied.{forms_ranked, bodies_ranked}
+use Rattle.smv_flat.specs.FlatParts.{parts_plain}
+use Rattle.smv_rows.proofs.Bodied.{forms_held, order_is}
 use Rattle.smv_rows.proofs.order.row_order.Goals as goal
 
-pub bodies_of-requires-clause-ranked : goal.bodies_of-requires-clause-ranked
-bodies_of-requires-clause-ranked c = (c.requires.rank, forms_ranked c.args.flat.now.items.now c.requires.rank (map form_plain c.args.flat.now.formulas.now) c.requires.ranked)
+pub bodies_of-requires-clause-held : goal.bodies_of-requires-clause-held
+bodies_of-requires-clause-held c = forms_held c.args.flat.now.items.now (map form_plain c.args.flat.now.formulas.now) c.requires.held
 
-pub order_of-requires : goal.order_of-requires
-order_of-requires c =
-    subst (λ (bs : List (Option (Bor FlatExpr))). HaveRanks bs) (sym c.as_slice.ensures.value)
-    (bodies_ranked c.args.flat.now.items.now c.requires.rank (map form_plain c.args.flat.now.formulas.now) c.in_ok-bodies.bodies.items
-    (forms_ranked c.args.flat.now.items.now c.requires.rank (map form_plain c.args.flat.now.formulas.now) c.requires.ranked) c.in_ok-bodies.ensures)
+pub returns-then-listed-clause-order : goal.returns-then-listed-clause-order
+returns-then-listed-clause-order c = record {
+  bodies = c.in_ok-bodies.ensures;
+  order = order_is (parts_plain c.args.flat.now) c.args.flat.now.items.now c.in_ok-bodies.bodies.items c.args.order.now refl c.in_ok-bodies.ensures c.requires;
+  places = λ h. absurd (cc);
+  inputs = c.has_inputs-inputs.ensures;
+}
+
+pub returns-clause-order : goal.returns-clause-order
+returns-clause-order c = record {
+  bodies = c.in_ok-bodies.ensures;
+  order = order_is (parts_plain c.args.flat.now) c.args.flat.now.items.now c.in_ok-bodies.bodies.items c.args.order.now refl c.in_ok-bodies.ensures c.requires;
+  places = λ h. c.in_ok-places.ensures;
+  inputs = c.has_inputs-inputs.ensures;
+}
