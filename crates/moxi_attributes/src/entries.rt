@@ -1,5 +1,5 @@
 // Lists of variables.
-ghost use Rattle.std.specs.Prelude.{◌≡◌, ◌++◌, ◌∷◌, [], OnOk, IfOk, is_some};
+ghost use Rattle.std.specs.Prelude.{◌≡◌, ◌<◌, ◌^◌, ◌++◌, ◌∷◌, [], length, OnOk, IfOk, is_some};
 ghost use Rattle.moxi_sexpr.specs.Tree.{plain, plain_forms};
 ghost use Rattle.moxi_scripts.specs.Collecting.{also};
 ghost use Rattle.moxi_scripts.specs.Declarations.{clash_failures};
@@ -128,16 +128,12 @@ pub fn test_twice(
     Ok(())
 }
 
-/// Returns the variables as an index by name.
-///
-/// The result is `NoMemory` where they can't be numbered with 32 bits.
+/// Returns the variables as an index by name, numbered with 32 bits.
 pub fn locals_among(alloc: Global, entries: &Entries) -> Result<Locals, NoMemory>
+    requires few { length entries.now < 2 ^ 32 }
     ensures { IfOk result (λ l. l ≡ locals_among entries.now) }
 {
     let mut locals = Locals::new(alloc);
-    if entries.len() > u32::MAX as usize {
-        return Err(NoMemory);
-    }
     for i in 0..entries.len() {
         let entry = entries.at(i);
         locals.add(Name::of(alloc, entry.name.bytes())?, entry.sort)?;
@@ -157,14 +153,12 @@ fn sort_among(locals: &Locals, name: &[u8]) -> Option<Sort>
 
 /// Returns the variables as an index by name, each with the sort that its name has in `text`.
 ///
-/// There the variables are in the order of the text. The result is `NoMemory` where they can't be numbered with 32 bits.
+/// There the variables are in the order of the text. The variables are numbered with 32 bits.
 pub fn locals_found(alloc: Global, text: &Locals, entries: &Entries) -> Result<Locals, NoMemory>
+    requires few { length entries.now < 2 ^ 32 }
     ensures { IfOk result (λ l. l ≡ locals_found text.now entries.now) }
 {
     let mut locals = Locals::new(alloc);
-    if entries.len() > u32::MAX as usize {
-        return Err(NoMemory);
-    }
     for i in 0..entries.len() {
         let entry = entries.at(i);
         let sort = sort_among(text, entry.name.bytes());

@@ -1,6 +1,6 @@
 // Formulas of systems and checks.
-ghost use Rattle.std.specs.Prelude.{◌≡◌, ◌++◌, IfOk, OnOk};
-ghost use Rattle.moxi_sexpr.specs.Tree.{plain as plain_form, plain_forms};
+ghost use Rattle.std.specs.Prelude.{◌≡◌, ◌<◌, ◌^◌, ◌++◌, IfOk, IfSome, OnOk};
+ghost use Rattle.moxi_sexpr.specs.Tree.{nodes, plain as plain_form, plain_forms};
 ghost use Rattle.moxi_terms.specs.View.{plain};
 ghost use Rattle.moxi_attributes.specs.Views.{value_now};
 ghost use Rattle.moxi_scripts.specs.Collecting.{also};
@@ -31,6 +31,7 @@ pub fn read_truth(
     form: &Form,
     found: &mut Option<Refusal>,
 ) -> Result<Term, NoMemory>
+    requires few { nodes (plain_form form.now) < 2 ^ 32 }
     ensures term { IfOk result (λ t. plain t ≡ term_of scope.now locals.now primes (plain_form form.now)) }
     ensures finds { OnOk result (found.new ≡ also found.old (term_failures scope.now locals.now primes (plain_form form.now))) }
 {
@@ -50,6 +51,7 @@ pub fn read_formula(
     value: Option<&Form>,
     found: &mut Option<Refusal>,
 ) -> Result<Term, NoMemory>
+    requires few { IfSome (value_now value) (λ t. nodes t < 2 ^ 32) }
     ensures term { IfOk result (λ t. plain t ≡ formula_term scope.now locals.now primes (value_now value.entry)) }
     ensures finds { OnOk result (found.new ≡ also found.old (formula_failures scope.now locals.now primes (value_now value.entry))) }
 {

@@ -1,6 +1,6 @@
 // The named formulas of a check.
-ghost use Rattle.std.specs.Prelude.{◌≡◌, false, OnOk};
-ghost use Rattle.moxi_sexpr.specs.Tree.{plain as plain_form, plain_forms};
+ghost use Rattle.std.specs.Prelude.{◌≡◌, ◌<◌, ◌^◌, false, OnOk};
+ghost use Rattle.moxi_sexpr.specs.Tree.{all_nodes, nodes, plain as plain_form, plain_forms};
 ghost use Rattle.moxi_terms.specs.View.{plain};
 ghost use Rattle.moxi_scripts.specs.declared.parts.Turn.TheVariants as turns;
 ghost use Rattle.moxi_scripts.specs.Collecting.{also};
@@ -155,6 +155,7 @@ fn read_label(
     ls: &mut Labels,
     found: &mut Option<Refusal>,
 ) -> Result<(), NoMemory>
+    requires few { nodes (plain_form form.now) < 2 ^ 32 }
     ensures labels { OnOk result (plain_labels ls.new ≡ with_named scope.now locals.now k (plain_labels ls.old) (named (plain_form form.now))) }
     ensures finds { OnOk result (found.new ≡ also found.old (named_tests scope.now locals.now (plain_labels ls.old) (plain_form form.now) (named (plain_form form.now)))) }
 {
@@ -189,6 +190,7 @@ fn read_label_at(
     ls: &mut Labels,
     found: &mut Option<Refusal>,
 ) -> Result<(), NoMemory>
+    requires few { nodes (plain_form form.now) < 2 ^ 32 }
     ensures labels { OnOk result (plain_labels ls.new ≡ labels_with scope.now locals.now turn (plain_labels ls.old) (plain_form form.now)) }
     ensures finds { OnOk result (found.new ≡ also found.old (label_tests scope.now locals.now turn (plain_labels ls.old) (plain_form form.now))) }
 {
@@ -214,6 +216,7 @@ pub fn read_labels(
     ls: &mut Labels,
     found: &mut Option<Refusal>,
 ) -> Result<(), NoMemory>
+    requires few { all_nodes (plain_forms forms.now) < 2 ^ 32 }
     ensures labels { OnOk result (plain_labels ls.new ≡ labels_after scope.now locals.now (plain_labels ls.old) turns.AtKeyword (plain_forms forms.now)) }
     ensures finds { OnOk result (found.new ≡ also found.old (labels_failures scope.now locals.now (plain_labels ls.old) turns.AtKeyword (plain_forms forms.now))) }
 {

@@ -1,5 +1,5 @@
 // Names that a misshapen list could declare.
-ghost use Rattle.std.specs.Prelude.{◌≡◌, ◌++◌, IfOk, OnOk, is_none};
+ghost use Rattle.std.specs.Prelude.{◌≡◌, ◌<◌, ◌+◌, ◌^◌, ◌++◌, length, IfOk, OnOk, is_none};
 ghost use Rattle.moxi_sexpr.specs.Tree.{plain, plain_forms};
 ghost use Rattle.moxi_term_reading.specs.Forms.{place_in, symbol_of};
 ghost use Rattle.moxi_scripts.specs.Entries.{locals_among, locals_found};
@@ -110,7 +110,8 @@ fn add_possible(
 /// Returns the variables among which names are looked up, given those in the order of the text and those in the order of
 /// their numbers.
 ///
-/// If `shaped` is false, each symbol of the forms that has no other meaning counts as a variable without a sort.
+/// If `shaped` is false, each symbol of the forms that has no other meaning counts as a variable without a sort. The
+/// variables are numbered with 32 bits.
 pub fn possible_locals(
     alloc: Global,
     scope: &Scope,
@@ -119,6 +120,8 @@ pub fn possible_locals(
     text: &mut Entries,
     all: &mut Entries,
 ) -> Result<Locals, NoMemory>
+    requires text { length text.old + length (possible_entries scope.now shaped (plain_forms forms.now)) < 2 ^ 32 }
+    requires all { length all.old + length (possible_entries scope.now shaped (plain_forms forms.now)) < 2 ^ 32 }
     ensures { IfOk result (λ l. l ≡ locals_found (locals_among (text.old ++ possible_entries scope.now shaped (plain_forms forms.now))) (all.old ++ possible_entries scope.now shaped (plain_forms forms.now))) }
 {
     add_possible(alloc, scope, shaped, forms, text)?;

@@ -4,14 +4,14 @@ use Rattle.std.proofs.lemmas.List.{length-append}
 use Rattle.std.proofs.lemmas.Option.{none-some, same_Some}
 use Rattle.text_core.specs.declared.place.Place.{Place}
 use Rattle.name_maps.specs.Names.{place_of}
-use Rattle.moxi_sexpr.specs.Tree.{Tree, atom, list, Trees, no_trees, tree}
+use Rattle.moxi_sexpr.specs.Tree.{all_nodes, nodes, Tree, atom, list, Trees, no_trees, tree}
 use Rattle.moxi_terms.specs.declared.data.Sort.{Sort}
 use Rattle.moxi_terms.specs.declared.term.Enumeration.{Enumeration}
 use Rattle.moxi_terms.specs.declared.term.NamedSort.{NamedSort}
 use Rattle.moxi_terms.specs.Names.{all_constants, is_sort_name, is_term_name, may_be_enumeration, with_enumeration, with_function, with_sort}
 use Rattle.moxi_terms.specs.Tree.{PlainFunction, Tree as TermTree}
 use Rattle.moxi_terms.specs.View.{ScopeState}
-use Rattle.moxi_term_reading.specs.Forms.{only_of, pair_of, place_in, symbol_of}
+use Rattle.moxi_term_reading.specs.Forms.{pair_of, place_in, symbol_of}
 use Rattle.moxi_term_reading.specs.SortReading.{sort_reading}
 use Rattle.moxi_term_reading.specs.declared.locals.Local.{Local}
 use Rattle.moxi_scripts.specs.declared.parts.CommandName.{CommandName}
@@ -25,18 +25,13 @@ use Rattle.moxi_scripts.specs.declared.parts.Use.{Use}
 use Rattle.moxi_scripts.specs.Attributes.{is_behind, shape_holds, turn_after}
 use Rattle.moxi_scripts.specs.Commands.{Reading, command_named, reading_after, with_command, with_form, with_headed, with_known}
 use Rattle.moxi_scripts.specs.Cycles.{count_uses}
-use Rattle.moxi_scripts.specs.Declarations.{FunctionForms, are_symbols, body_reading, function_forms, is_nil, may_be_constants, part_failures, result_sort, symbol_name, symbols_in, typed_function, with_defined_sort, with_function_of, with_listed, with_named_enumeration, with_new_enumeration, with_new_function, with_read_enumeration, with_read_function, with_read_sort, with_sort_if, with_sort_of, with_typed, with_typed_function}
+use Rattle.moxi_scripts.specs.Declarations.{FunctionForms, are_symbols, body_reading, function_forms, function_in, function_parts, is_nil, may_be_constants, part_failures, result_sort, symbol_name, symbols_in, typed_function, with_defined_sort, with_function_of, with_list, with_listed, with_named_enumeration, with_new_enumeration, with_read_enumeration, with_read_function, with_read_sort, with_sort_if, with_sort_of, with_typed, with_typed_function}
 use Rattle.moxi_scripts.specs.Entries.{entries_of, known_sort}
-use Rattle.moxi_scripts.specs.Shapes.{HeadedForms, NamedForm, headed, headed_by, named, named_by, named_in, parts_of}
+use Rattle.moxi_scripts.specs.Shapes.{HeadedForms, NamedForm, headed, named, named_in, parts_of, triple_of}
 use Rattle.moxi_scripts.specs.Systems.{SystemReading, bare_system, content_of, locals_of, names_with_system, shaped_system, with_new_system, with_system}
 use Rattle.moxi_scripts.specs.Uses.{actuals_in, use_among, use_headed, use_named, use_of, uses_in}
-use Rattle.moxi_declarations.specs.Sizes.{all_nodes, nodes, reading_size, scope_size}
-
-nodes_some : (t : Tree) → 1 ≤ nodes t
-nodes_some (atom p a) = omega arith
-nodes_some (list p ts) = let g : 1 ≤ suc (all_nodes ts) = omega arith in g
-
--- FORMS IN FORMS
+use Rattle.moxi_attributes.specs.laws.FormSizes.{headed_few, named_few, nodes_some, parts_few}
+use Rattle.moxi_declarations.specs.Sizes.{reading_size, scope_size}
 
 pub symbols_few : (ts : Trees) → length (symbols_in ts) ≤ all_nodes ts
 symbols_few no_trees = omega arith
@@ -48,43 +43,37 @@ symbols_few (tree t ts) = go (symbol_of t) (symbols_few ts)
         let g : suc (length (symbols_in ts)) ≤ nodes t + all_nodes ts = omega (arith, h, nodes_some t) in
         g
 
-pub parts_few : (t : Tree) (ts : Trees) → parts_of t ≡ Some ts → suc (all_nodes ts) ≤ nodes t
-parts_few (atom p a) ts e = absurd (none-some ts e)
-parts_few (list p us) ts e =
-    let same : all_nodes us ≡ all_nodes ts = ap all_nodes (same_Some us ts e) in
-    let g : suc (all_nodes ts) ≤ suc (all_nodes us) = omega (arith, same) in
+triple_few : (ts : Trees) (x : Tree × Tree × Tree) → triple_of ts ≡ Some x → nodes x.0 + nodes x.2 ≤ all_nodes ts
+triple_few no_trees x e = absurd (none-some x e)
+triple_few (tree t no_trees) x e = absurd (none-some x e)
+triple_few (tree t (tree u no_trees)) x e = absurd (none-some x e)
+triple_few (tree t (tree u (tree v no_trees))) x e =
+    let same = same_Some (t, u, v) x e in
+    let first : nodes t ≡ nodes x.0 = ap (λ (y : Tree × Tree × Tree). nodes y.0) same in
+    let last : nodes v ≡ nodes x.2 = ap (λ (y : Tree × Tree × Tree). nodes y.2) same in
+    let g : nodes x.0 + nodes x.2 ≤ nodes t + (nodes u + (nodes v + 0)) = omega (arith, first, last) in
     g
+triple_few (tree t (tree u (tree v (tree w ws)))) x e = absurd (none-some x e)
 
-pub headed_few : (ts : Trees) (h : HeadedForms) → headed ts ≡ Some h → suc (all_nodes h.rest) ≤ all_nodes ts
-headed_few no_trees h e = absurd (none-some h e)
-headed_few (tree t ts) h e = go (symbol_of t) e
+-- the parameters and the body of a function
+pub function_few : (ts : Trees) (f : FunctionForms) → function_forms ts ≡ Some f → all_nodes f.parameters + nodes f.body ≤ all_nodes ts
+function_few ts f e = go (headed ts) refl e
   where
-    go : (o : Option (List ℕ × Bool)) → headed_by (place_in t) o ts ≡ Some h → suc (all_nodes h.rest) ≤ nodes t + all_nodes ts
-    go None e = absurd (none-some h e)
-    go (Some x) e =
-        let same : all_nodes ts ≡ all_nodes h.rest = ap (λ (k : HeadedForms). all_nodes k.rest) (same_Some _ h e) in
-        omega (arith, same, nodes_some t)
+    listed : (h : HeadedForms) (x : Tree × Tree × Tree) (o : Option Trees) → parts_of x.0 ≡ o → with_list (place_in x.0) h x.0 x.1 x.2 o ≡ Some f → all_nodes f.parameters + nodes f.body ≤ nodes x.0 + nodes x.2
+    listed h x None p e = absurd (none-some f e)
+    listed h x (Some ps) p e =
+        let same = same_Some _ f e in
+        let first : all_nodes ps ≡ all_nodes f.parameters = ap (λ (k : FunctionForms). all_nodes k.parameters) same in
+        let last : nodes x.2 ≡ nodes f.body = ap (λ (k : FunctionForms). nodes k.body) same in
+        omega (arith, first, last, parts_few x.0 ps p)
 
-only_few : (ts : Trees) (t : Tree) → only_of ts ≡ Some t → nodes t ≤ all_nodes ts
-only_few no_trees t e = absurd (none-some t e)
-only_few (tree u no_trees) t e =
-    let same : nodes u ≡ nodes t = ap nodes (same_Some u t e) in
-    let g : nodes t ≤ nodes u + 0 = omega (arith, same) in
-    g
-only_few (tree u (tree v vs)) t e = absurd (none-some t e)
+    by : (h : HeadedForms) → headed ts ≡ Some h → (o : Option (Tree × Tree × Tree)) → triple_of h.rest ≡ o → function_parts h o ≡ Some f → all_nodes f.parameters + nodes f.body ≤ all_nodes ts
+    by h e None t g = absurd (none-some f g)
+    by h e (Some x) t g = omega (arith, headed_few ts h e, triple_few h.rest x t, listed h x (parts_of x.0) refl g)
 
-pub named_few : (ts : Trees) (n : NamedForm) → named_in (headed ts) ≡ Some n → suc (nodes n.form) ≤ all_nodes ts
-named_few ts n e = go (headed ts) refl e
-  where
-    by : (h : HeadedForms) → headed ts ≡ Some h → (o : Option Tree) → only_of h.rest ≡ o → named_by h o ≡ Some n → suc (nodes n.form) ≤ all_nodes ts
-    by h e None f g = absurd (none-some n g)
-    by h e (Some t) f g =
-        let same : nodes t ≡ nodes n.form = ap (λ (k : NamedForm). nodes k.form) (same_Some _ n g) in
-        omega (arith, headed_few ts h e, only_few h.rest t f, same)
-
-    go : (o : Option HeadedForms) → headed ts ≡ o → named_in o ≡ Some n → suc (nodes n.form) ≤ all_nodes ts
-    go None e f = absurd (none-some n f)
-    go (Some h) e f = by h e (only_of h.rest) refl f
+    go : (o : Option HeadedForms) → headed ts ≡ o → function_in o ≡ Some f → all_nodes f.parameters + nodes f.body ≤ all_nodes ts
+    go None e g = absurd (none-some f g)
+    go (Some h) e g = by h e (triple_of h.rest) refl g
 
 -- WHAT A SCOPE GAINS
 

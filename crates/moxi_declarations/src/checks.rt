@@ -1,7 +1,7 @@
 // The check of a script, as read before its system is looked up.
-ghost use Rattle.std.specs.Prelude.{◌≡◌, ◌++◌, [], Some, IfOk, OnOk};
+ghost use Rattle.std.specs.Prelude.{◌≡◌, ◌<◌, ◌^◌, ◌++◌, [], true, Some, IfOk, OnOk};
 ghost use Rattle.std.specs.Option.{option_map};
-ghost use Rattle.moxi_sexpr.specs.Tree.{plain, plain_forms};
+ghost use Rattle.moxi_sexpr.specs.Tree.{all_nodes, plain, plain_forms};
 ghost use Rattle.moxi_scripts.specs.declared.parts.Command.TheVariants as commands;
 ghost use Rattle.moxi_scripts.specs.declared.parts.Turn.TheVariants as turns;
 ghost use Rattle.moxi_attributes.specs.Views.{value_now, headed_here, plain_labels};
@@ -11,6 +11,7 @@ ghost use Rattle.moxi_scripts.specs.Checks.{variables_in};
 ghost use Rattle.moxi_scripts.specs.Labels.{no_labels};
 ghost use Rattle.moxi_scripts.specs.QueryReading.{queries_after};
 ghost use Rattle.moxi_declarations.specs.Views.{plain_check_reading};
+ghost use Rattle.moxi_scripts.specs.Attributes.{shape_holds};
 ghost use Rattle.moxi_scripts.specs.Collecting.{also};
 ghost use Rattle.moxi_scripts.specs.Lists.{all_entries, lists_in};
 ghost use Rattle.moxi_scripts.specs.Shapes.{headed};
@@ -73,6 +74,7 @@ fn read_named(
 ) -> Result<(), NoMemory>
     requires labels { plain_labels labels.old ≡ no_labels }
     requires queries { queries.old ≡ [] }
+    requires few { all_nodes (plain_forms forms.now) < 2 ^ 32 }
     ensures labels { OnOk result (plain_labels labels.new ≡ labels_over scope.now locals.now (plain_forms forms.now)) }
     ensures queries { OnOk result (queries.new ≡ queries_after (labels_over scope.now locals.now (plain_forms forms.now)) turns.AtKeyword (plain_forms forms.now)) }
     ensures finds { OnOk result (found.new ≡ also (also found.old (label_failures_over scope.now locals.now (plain_forms forms.now))) (query_failures_over (labels_over scope.now locals.now (plain_forms forms.now)) (plain_forms forms.now))) }
@@ -94,6 +96,8 @@ fn read_parts(
 ) -> Result<Lists, NoMemory>
     requires labels { plain_labels labels.old ≡ no_labels }
     requires queries { queries.old ≡ [] }
+    requires shape { shape_holds commands.Check (plain_forms forms.now) ≡ true }
+    requires few { all_nodes (plain_forms forms.now) < 2 ^ 32 }
     ensures lists { IfOk result (λ l. l ≡ lists_in scope.now commands.Check (plain_forms forms.now)) }
     ensures labels { OnOk result (plain_labels labels.new ≡ labels_in scope.now (plain_forms forms.now)) }
     ensures queries { OnOk result (queries.new ≡ queries_after (labels_in scope.now (plain_forms forms.now)) turns.AtKeyword (plain_forms forms.now)) }
@@ -122,6 +126,8 @@ fn read_content(
     variables: &mut Entries,
     found: &mut Option<Refusal>,
 ) -> Result<ReadCheck, NoMemory>
+    requires shape { shape_holds commands.Check (headed_here h).rest ≡ true }
+    requires few { all_nodes (headed_here h).rest < 2 ^ 32 }
     ensures check { IfOk result (λ r. plain_check_reading r ≡ content_of scope.now p (headed_here h.entry)) }
     ensures adds { OnOk result (variables.new ≡ variables.old ++ all_entries (lists_in scope.now commands.Check (headed_here h.entry).rest)) }
     ensures finds { OnOk result (found.new ≡ also found.old (content_failures scope.now (headed_here h.entry).rest)) }
@@ -166,6 +172,7 @@ fn read_shaped(
     variables: &mut Entries,
     found: &mut Option<Refusal>,
 ) -> Result<Option<ReadCheck>, NoMemory>
+    requires few { all_nodes (headed_here h).rest < 2 ^ 32 }
     ensures check { IfOk result (λ o. option_map plain_check_reading o ≡ check_in scope.now p (Some (headed_here h.entry))) }
     ensures adds { OnOk result (variables.new ≡ variables.old ++ variables_in scope.now (Some (headed_here h.entry))) }
     ensures finds { OnOk result (found.new ≡ also found.old (headed_failures scope.now p (Some (headed_here h.entry)))) }
@@ -191,6 +198,7 @@ pub fn read_check(
     variables: &mut Entries,
     found: &mut Option<Refusal>,
 ) -> Result<Option<ReadCheck>, NoMemory>
+    requires few { all_nodes (plain_forms forms.now) < 2 ^ 32 }
     ensures check { IfOk result (λ o. option_map plain_check_reading o ≡ check_of scope.now p (plain_forms forms.now)) }
     ensures adds { OnOk result (variables.new ≡ variables.old ++ variables_in scope.now (headed (plain_forms forms.now))) }
     ensures finds { OnOk result (found.new ≡ also found.old (check_failures scope.now p (plain_forms forms.now))) }

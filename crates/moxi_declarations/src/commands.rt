@@ -1,7 +1,7 @@
 // The commands of a script.
 ghost use Rattle.std.specs.Str.{bytes_eq};
 ghost use Rattle.std.specs.Prelude.{codes, ◌≡◌, ◌<◌, ◌+◌, ◌^◌, ◌++◌, [], suc, Some, IfOk, OnOk};
-ghost use Rattle.moxi_sexpr.specs.Tree.{plain, plain_forms};
+ghost use Rattle.moxi_sexpr.specs.Tree.{all_nodes, nodes, plain, plain_forms};
 ghost use Rattle.moxi_term_reading.specs.Forms.{only_of, symbol_now};
 ghost use Rattle.moxi_scripts.specs.declared.parts.CommandName.TheVariants as name;
 ghost use Rattle.moxi_scripts.specs.Collecting.{also};
@@ -9,7 +9,7 @@ ghost use Rattle.moxi_scripts.specs.Commands.{command_failures, command_named, c
 ghost use Rattle.moxi_scripts.specs.Commands.{headed_failures, known_failures, logic_failures, logic_of, logic_symbol};
 ghost use Rattle.moxi_scripts.specs.Commands.{logic_symbol_failures, nothing_read, other_name, reading_after, system_name};
 ghost use Rattle.moxi_scripts.specs.Commands.{with_command, with_form, with_headed, with_known};
-ghost use Rattle.moxi_declarations.specs.Sizes.{all_nodes, nodes, reading_size};
+ghost use Rattle.moxi_declarations.specs.Sizes.{reading_size};
 ghost use Rattle.moxi_declarations.specs.Views.{plain_draft};
 ghost use Rattle.moxi_attributes.specs.Views.{headed_here};
 
@@ -175,6 +175,7 @@ fn add_check(
     forms: &[Form],
     found: &mut Option<Refusal>,
 ) -> Result<(), NoMemory>
+    requires few { all_nodes (plain_forms forms.now) < 2 ^ 32 }
     ensures draft { OnOk result (plain_draft draft.new ≡ with_command name.Check (plain_draft draft.old) p (plain_forms forms.now)) }
     ensures finds { OnOk result (found.new ≡ also found.old (command_failures name.Check (plain_draft draft.old) p (plain_forms forms.now))) }
 {

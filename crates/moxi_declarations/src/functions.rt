@@ -1,6 +1,6 @@
 // Functions.
-ghost use Rattle.std.specs.Prelude.{◌≡◌, ◌<◌, ◌-◌, ◌^◌, ◌++◌, [], true, Some, IfOk, IfSome, OnOk, if◌then◌else◌};
-ghost use Rattle.moxi_sexpr.specs.Tree.{plain as plain_form, plain_forms};
+ghost use Rattle.std.specs.Prelude.{◌≡◌, ◌<◌, ◌+◌, ◌-◌, ◌^◌, ◌++◌, [], true, length, Some, IfOk, IfSome, OnOk, if◌then◌else◌};
+ghost use Rattle.moxi_sexpr.specs.Tree.{all_nodes, nodes, plain as plain_form, plain_forms};
 ghost use Rattle.moxi_term_reading.specs.Answer.{IsRead};
 ghost use Rattle.moxi_terms.specs.Sorted.{IsFunction};
 ghost use Rattle.moxi_terms.specs.View.{plain};
@@ -89,6 +89,8 @@ fn read_body(
     parameters: &Entries,
     body: &Form,
 ) -> Result<ReadTerm, NoMemory>
+    requires parameters { length parameters.now < 2 ^ 32 }
+    requires body { nodes (plain_form body.now) < 2 ^ 32 }
     ensures { IfOk result (IsRead (read_over scope.now parameters.now (plain_form body.now))) }
 {
     let locals = locals_among(alloc, parameters)?;
@@ -104,7 +106,8 @@ fn read_parts(
     parameters: &mut Entries,
     found: &mut Option<Refusal>,
 ) -> Result<(Option<Sort>, Term), NoMemory>
-    requires { parameters.old ≡ [] }
+    requires parameters { parameters.old ≡ [] }
+    requires few { all_nodes (function_here f).parameters + nodes (function_here f).body < 2 ^ 32 }
     ensures parameters { OnOk result (parameters.new ≡ entries_of scope.now (function_here f.entry).parameters) }
     ensures result { IfOk result (λ r. r.0 ≡ known_sort (result_sort scope.now p (function_here f.entry))) }
     ensures body { IfOk result (λ r. plain r.1 ≡ (body_reading scope.now (function_here f.entry)).term) }
@@ -158,6 +161,7 @@ pub fn read_function(
     found: &mut Option<Refusal>,
 ) -> Result<(), NoMemory>
     requires few { scope_size scope.old < 2 ^ 32 - 1 }
+    requires form { all_nodes (plain_forms forms.now) < 2 ^ 32 }
     ensures scope { OnOk result (scope.new ≡ with_read_function scope.old p (plain_forms forms.now)) }
     ensures names { OnOk result (names.new ≡ with_function_name scope.old names.old (function_forms (plain_forms forms.now))) }
     ensures adds { OnOk result (variables.new ≡ variables.old ++ parameters_in scope.old (function_forms (plain_forms forms.now))) }
@@ -186,6 +190,7 @@ fn define_function(
     found: &mut Option<Refusal>,
 ) -> Result<(), NoMemory>
     requires few { scope_size scope.old < 2 ^ 32 - 1 }
+    requires parts { all_nodes (function_here f).parameters + nodes (function_here f).body < 2 ^ 32 }
     ensures scope { OnOk result (scope.new ≡ with_function_of scope.old p (Some (function_here f.entry))) }
     ensures names { OnOk result (names.new ≡ with_function_name scope.old names.old (Some (function_here f.entry))) }
     ensures adds { OnOk result (variables.new ≡ variables.old ++ parameters_in scope.old (Some (function_here f.entry))) }

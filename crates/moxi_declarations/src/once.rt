@@ -1,10 +1,11 @@
 // The variables of a system or a check, as an index by name.
-ghost use Rattle.std.specs.Prelude.{◌≡◌, [], length, IfOk, IfSome, OnOk};
-ghost use Rattle.moxi_sexpr.specs.Tree.{plain_forms};
+ghost use Rattle.std.specs.Prelude.{◌≡◌, ◌<◌, ◌^◌, [], true, length, IfOk, IfSome, OnOk};
+ghost use Rattle.moxi_sexpr.specs.Tree.{all_nodes, plain_forms};
+ghost use Rattle.moxi_scripts.specs.Attributes.{shape_holds};
 ghost use Rattle.moxi_scripts.specs.Collecting.{also};
 ghost use Rattle.moxi_scripts.specs.declared.parts.Turn.TheVariants as turns;
 ghost use Rattle.moxi_scripts.specs.Entries.{locals_among, names_after, twice_failures};
-ghost use Rattle.moxi_scripts.specs.Lists.{all_entries, text_entries};
+ghost use Rattle.moxi_scripts.specs.Lists.{all_entries, lists_in, text_entries};
 ghost use Rattle.moxi_declarations.specs.Once.{locals_listed};
 
 use moxi_attributes::{
@@ -18,14 +19,12 @@ use name_maps::NameSet;
 use std::alloc::Global;
 use text_core::{Name, NoMemory, Refusal};
 
-// The variables of a list as an index by name, or None where a name occurs twice or 32 bits can't number the variables.
+// The variables of a list as an index by name, or None where a name occurs twice.
 fn locals_once(alloc: Global, entries: &[Declared]) -> Result<Option<Locals>, NoMemory>
+    requires few { length entries.now < 2 ^ 32 }
     ensures locals { IfOk result (λ o. IfSome o (λ l. l ≡ locals_among entries.now)) }
     ensures once { IfOk result (λ o. IfSome o (λ l. length (names_after [] entries.now) ≡ length entries.now)) }
 {
-    if entries.len() > u32::MAX as usize {
-        return Ok(None);
-    }
     let mut locals = Locals::new(alloc);
     for entry in entries {
         if !locals.add(Name::of(alloc, entry.name.bytes())?, entry.sort)? {
@@ -44,6 +43,9 @@ fn mixed_locals(
     forms: &[Form],
     found: &mut Option<Refusal>,
 ) -> Result<Locals, NoMemory>
+    requires lists { lists.now ≡ lists_in scope.now command (plain_forms forms.now) }
+    requires shape { shape_holds command (plain_forms forms.now) ≡ true }
+    requires few { all_nodes (plain_forms forms.now) < 2 ^ 32 }
     ensures locals { IfOk result (λ l. l ≡ locals_listed scope.now lists.now command (plain_forms forms.now)) }
     ensures finds { OnOk result (found.new ≡ also found.old (twice_failures [] (text_entries lists.now command turns.AtKeyword (plain_forms forms.now)))) }
 {
@@ -56,7 +58,8 @@ fn mixed_locals(
 
 /// Returns the variables of the lists as an index by name, and tests that no name is declared twice.
 ///
-/// `all` holds the variables in the order of their numbers. Of two variables with the same name, the second fails.
+/// `all` holds the variables in the order of their numbers, which have 32 bits. Of two variables with the same name, the
+/// second fails.
 pub fn read_locals(
     alloc: Global,
     scope: &Scope,
@@ -66,7 +69,10 @@ pub fn read_locals(
     all: &[Declared],
     found: &mut Option<Refusal>,
 ) -> Result<Locals, NoMemory>
-    requires { all.now ≡ all_entries lists.now }
+    requires all { all.now ≡ all_entries lists.now }
+    requires lists { lists.now ≡ lists_in scope.now command (plain_forms forms.now) }
+    requires shape { shape_holds command (plain_forms forms.now) ≡ true }
+    requires few { all_nodes (plain_forms forms.now) < 2 ^ 32 }
     ensures locals { IfOk result (λ l. l ≡ locals_listed scope.now lists.now command (plain_forms forms.now)) }
     ensures finds { OnOk result (found.new ≡ also found.old (twice_failures [] (text_entries lists.now command turns.AtKeyword (plain_forms forms.now)))) }
 {

@@ -1,6 +1,6 @@
 // Enumerations and defined sorts.
 ghost use Rattle.std.specs.Prelude.{◌≡◌, ◌<◌, ◌+◌, ◌-◌, ◌^◌, OnOk, IfSome, Some, if◌then◌else◌, not, ◌++◌, length};
-ghost use Rattle.moxi_sexpr.specs.Tree.{plain, plain_forms};
+ghost use Rattle.moxi_sexpr.specs.Tree.{all_nodes, nodes, plain, plain_forms};
 ghost use Rattle.moxi_terms.specs.Names.{is_sort_name};
 ghost use Rattle.moxi_term_reading.specs.Reading.{prime_failures};
 ghost use Rattle.moxi_terms.specs.Sorts.{IsSort};
@@ -12,7 +12,7 @@ ghost use Rattle.moxi_scripts.specs.Declarations.{with_constants, with_new_enume
 ghost use Rattle.moxi_scripts.specs.Declarations.{constants_failures, may_be_constants, symbols_in};
 ghost use Rattle.moxi_scripts.specs.Shapes.{headed, named_in};
 ghost use Rattle.moxi_attributes.specs.Views.{headed_here, named_here};
-ghost use Rattle.moxi_declarations.specs.Sizes.{all_nodes, nodes, scope_size};
+ghost use Rattle.moxi_declarations.specs.Sizes.{scope_size};
 
 use moxi_attributes::{
     Headed, Named, fail, fail_if, fail_primed, headed_forms, is_empty_list, known_sort,

@@ -1,11 +1,12 @@
 // Systems, as read before their subsystems' systems are looked up.
-ghost use Rattle.std.specs.Prelude.{◌≡◌, ◌++◌, ◌∷◌, [], Some, IfOk, OnOk, map};
-ghost use Rattle.moxi_sexpr.specs.Tree.{plain_forms};
+ghost use Rattle.std.specs.Prelude.{◌≡◌, ◌<◌, ◌^◌, ◌++◌, ◌∷◌, [], true, Some, IfOk, OnOk, map};
+ghost use Rattle.moxi_sexpr.specs.Tree.{all_nodes, plain_forms};
 ghost use Rattle.moxi_terms.specs.View.{plain};
 ghost use Rattle.moxi_terms.specs.declared.data.Primes.TheVariants as may;
 ghost use Rattle.moxi_scripts.specs.declared.parts.Key.TheVariants as keys;
 ghost use Rattle.moxi_scripts.specs.declared.parts.Turn.TheVariants as turns;
 ghost use Rattle.moxi_scripts.specs.declared.parts.Command.TheVariants as commands;
+ghost use Rattle.moxi_scripts.specs.Attributes.{shape_holds};
 ghost use Rattle.moxi_scripts.specs.Collecting.{also};
 ghost use Rattle.moxi_scripts.specs.Entries.{names_with};
 ghost use Rattle.moxi_scripts.specs.Formulas.{formula_term};
@@ -70,6 +71,8 @@ pub fn read_variables(
     variables: &mut Entries,
     found: &mut Option<Refusal>,
 ) -> Result<ReadVariables, NoMemory>
+    requires shape { shape_holds command (plain_forms forms.now) ≡ true }
+    requires few { all_nodes (plain_forms forms.now) < 2 ^ 32 }
     ensures lists { IfOk result (λ r. r.lists ≡ lists_in scope.now command (plain_forms forms.now)) }
     ensures locals { IfOk result (λ r. r.locals ≡ locals_of scope.now command (plain_forms forms.now)) }
     ensures adds { OnOk result (variables.new ≡ variables.old ++ all_entries (lists_in scope.now command (plain_forms forms.now))) }
@@ -93,6 +96,7 @@ fn read_formulas(
     forms: &[Form],
     found: &mut Option<Refusal>,
 ) -> Result<SystemFormulas, NoMemory>
+    requires few { all_nodes (plain_forms forms.now) < 2 ^ 32 }
     ensures init { IfOk result (λ r. plain r.init ≡ formula_term scope.now locals.now may.Refused (value_at commands.System keys.Init (plain_forms forms.now))) }
     ensures trans { IfOk result (λ r. plain r.trans ≡ formula_term scope.now locals.now may.Allowed (value_at commands.System keys.Trans (plain_forms forms.now))) }
     ensures inv { IfOk result (λ r. plain r.inv ≡ formula_term scope.now locals.now may.Refused (value_at commands.System keys.Inv (plain_forms forms.now))) }
@@ -134,7 +138,8 @@ fn read_parts(
     uses: &mut List<Use>,
     found: &mut Option<Refusal>,
 ) -> Result<SystemFormulas, NoMemory>
-    requires { uses.old ≡ [] }
+    requires uses { uses.old ≡ [] }
+    requires few { all_nodes (plain_forms forms.now) < 2 ^ 32 }
     ensures init { IfOk result (λ r. plain r.init ≡ formula_term scope.now locals.now may.Refused (value_at commands.System keys.Init (plain_forms forms.now))) }
     ensures trans { IfOk result (λ r. plain r.trans ≡ formula_term scope.now locals.now may.Allowed (value_at commands.System keys.Trans (plain_forms forms.now))) }
     ensures inv { IfOk result (λ r. plain r.inv ≡ formula_term scope.now locals.now may.Refused (value_at commands.System keys.Inv (plain_forms forms.now))) }
@@ -163,6 +168,7 @@ fn read_over(
 ) -> Result<ReadSystem, NoMemory>
     requires lists { lists ≡ lists_in scope.now commands.System (plain_forms forms.now) }
     requires locals { locals.now ≡ locals_of scope.now commands.System (plain_forms forms.now) }
+    requires few { all_nodes (plain_forms forms.now) < 2 ^ 32 }
     ensures system { IfOk result (λ r. plain_reading r ≡ content_of scope.now name (plain_forms forms.now)) }
     ensures finds { OnOk result (found.new ≡ also (also found.old (formula_failures_in scope.now (plain_forms forms.now))) (use_failures_in scope.now (plain_forms forms.now))) }
 {
@@ -194,6 +200,8 @@ fn read_content(
     variables: &mut Entries,
     found: &mut Option<Refusal>,
 ) -> Result<ReadSystem, NoMemory>
+    requires shape { shape_holds commands.System (plain_forms forms.now) ≡ true }
+    requires few { all_nodes (plain_forms forms.now) < 2 ^ 32 }
     ensures system { IfOk result (λ r. plain_reading r ≡ content_of scope.now name.now (plain_forms forms.now)) }
     ensures adds { OnOk result (variables.new ≡ variables.old ++ all_entries (lists_in scope.now commands.System (plain_forms forms.now))) }
     ensures finds { OnOk result (found.new ≡ also found.old (content_failures scope.now (plain_forms forms.now))) }
@@ -251,6 +259,7 @@ fn read_shaped(
     variables: &mut Entries,
     found: &mut Option<Refusal>,
 ) -> Result<ReadSystem, NoMemory>
+    requires few { all_nodes (headed_here h).rest < 2 ^ 32 }
     ensures system { IfOk result (λ r. plain_reading r ≡ shaped_system scope.now (headed_here h.entry).name (headed_here h.entry).rest) }
     ensures adds { OnOk result (variables.new ≡ variables.old ++ shaped_variables scope.now (headed_here h.entry).rest) }
     ensures finds { OnOk result (found.new ≡ also found.old (shaped_failures scope.now p (headed_here h.entry).rest)) }
@@ -303,6 +312,7 @@ fn define_system(
     h: Headed,
     found: &mut Option<Refusal>,
 ) -> Result<(), NoMemory>
+    requires few { all_nodes (headed_here h).rest < 2 ^ 32 }
     ensures adds { OnOk result (map plain_reading systems.new.items ≡ with_system scope.now names.old (map plain_reading systems.old.items) (Some (headed_here h.entry))) }
     ensures repeats { OnOk result (map plain_reading repeated.new.items ≡ with_repeated scope.now names.old (map plain_reading repeated.old.items) (Some (headed_here h.entry))) }
     ensures names { OnOk result (names.new ≡ names_with names.old (headed_here h.entry).name) }
@@ -332,6 +342,7 @@ pub fn read_system(
     forms: &[Form],
     found: &mut Option<Refusal>,
 ) -> Result<(), NoMemory>
+    requires few { all_nodes (plain_forms forms.now) < 2 ^ 32 }
     ensures adds { OnOk result (map plain_reading systems.new.items ≡ with_system scope.now names.old (map plain_reading systems.old.items) (headed (plain_forms forms.now))) }
     ensures repeats { OnOk result (map plain_reading repeated.new.items ≡ with_repeated scope.now names.old (map plain_reading repeated.old.items) (headed (plain_forms forms.now))) }
     ensures names { OnOk result (names.new ≡ names_with_system names.old (headed (plain_forms forms.now))) }

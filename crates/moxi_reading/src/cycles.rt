@@ -1,10 +1,9 @@
 // Subsystems whose system contains the system that they are part of.
 ghost use Rattle.std.specs.Prelude.{◌≡◌, ◌+◌, ◌<◌, ◌≤◌, ◌^◌, ◌++◌, Bool, IfOk, OnOk, length, map, true};
 ghost use Rattle.digraph.specs.Graph.{is_graph};
-ghost use Rattle.moxi_sexpr.specs.Tree.{plain_forms};
+ghost use Rattle.moxi_sexpr.specs.Tree.{all_nodes, plain_forms};
 ghost use Rattle.moxi_scripts.specs.Collecting.{also, fails_with};
 ghost use Rattle.moxi_scripts.specs.Commands.{nothing_read};
-ghost use Rattle.moxi_declarations.specs.Sizes.{all_nodes};
 ghost use Rattle.moxi_declarations.specs.Views.{plain_draft, plain_reading};
 ghost use Rattle.digraph.specs.Ranks.{IsRanking};
 ghost use Rattle.moxi_scripts.specs.Cycles.{all_cycles, all_use_rows, count_uses, cycle_failures, ends_at, nodes_from, system_rows, use_cycles, use_graph, use_rows, use_tests};

@@ -3,7 +3,6 @@
 
 mod cycles;
 mod links;
-mod nodes;
 mod outcome;
 mod read;
 

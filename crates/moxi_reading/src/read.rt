@@ -2,13 +2,12 @@
 ghost use Rattle.std.specs.Prelude.{◌≡◌, ◌<◌, ◌^◌, IfErr, IfOk, Some, length, map};
 ghost use Rattle.text_core.specs.declared.place.Refusal.{Refusal};
 ghost use Rattle.moxi_sexpr.specs.Printing.{ArePrintable};
-ghost use Rattle.moxi_sexpr.specs.Tree.{plain_forms};
+ghost use Rattle.moxi_sexpr.specs.Tree.{all_nodes, plain_forms};
 ghost use Rattle.moxi_term_reading.specs.Failures.{least};
 ghost use Rattle.name_maps.specs.Names.{place_of};
 ghost use Rattle.moxi_terms.specs.View.{plain};
 ghost use Rattle.moxi_scripts.specs.Entries.{variables_of};
 ghost use Rattle.moxi_reading.specs.Answer.{IsFirstFailure, IsFirstOf, IsRefusal, IsScript};
-ghost use Rattle.moxi_declarations.specs.Sizes.{all_nodes};
 ghost use Rattle.moxi_declarations.specs.Views.{plain_check_reading, plain_draft, plain_reading};
 ghost use Rattle.moxi_scripts.specs.Commands.{nothing_read};
 ghost use Rattle.moxi_scripts.specs.Script.{PlainScript, plain_check, plain_system};
@@ -16,14 +15,13 @@ ghost use Rattle.moxi_scripts.specs.ScriptView.{plain_script};
 ghost use Rattle.moxi_scripts.specs.Spelling.{SpellsScript, actual_numbers, check_of, number_or_none, script_failures, subsystem_of, system_of};
 
 use crate::cycles::read_whole_script;
-use crate::nodes::{MANY, count_nodes};
 use crate::outcome::ScriptEnd;
 use moxi_attributes::{Labelled, variables_of};
 use moxi_declarations::{Draft, ReadCheck, ReadSystem, nothing_read};
 use moxi_scripts::{
     Actual, Check, Formulas, Lists, Script, Subsystem, Subsystems, System, Systems, Use,
 };
-use moxi_sexpr::Forms;
+use moxi_sexpr::{Forms, MANY_NODES, count_all_nodes};
 use moxi_terms::{Scope, Variables};
 use name_maps::NameSet;
 use std::alloc::Global;
@@ -295,7 +293,7 @@ pub fn read_script(alloc: Global, forms: &Forms, end: Place) -> Result<Script, S
     // The least of the failing tests is returned, unless memory runs out.
     ensures answered { (r : Refusal) → least (script_failures (plain_forms forms.now.items) end) ≡ Some r → IsRefusal r result }
 {
-    if count_nodes(forms) == MANY {
+    if count_all_nodes(forms) == MANY_NODES {
         return Err(ScriptEnd::NoMemory);
     }
     let mut draft = nothing_read(alloc);

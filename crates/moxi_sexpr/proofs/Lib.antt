@@ -10,3 +10,4 @@ pub mod Again
 pub mod Endings
 pub mod Readable
 pub mod Reserved
+pub mod Counting

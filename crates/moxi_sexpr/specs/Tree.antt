@@ -1,5 +1,5 @@
 -- The plain form of a form: a tree of places and atoms.
-use Rattle.std.specs.Prelude.{ℕ, suc, max, List, [], ◌∷◌, map}
+use Rattle.std.specs.Prelude.{ℕ, suc, ◌+◌, max, List, [], ◌∷◌, map}
 use Rattle.text_core.specs.declared.place.Place.{Place}
 use Rattle.moxi_sexpr.specs.declared.form.Atom.{Atom}
 use Rattle.moxi_sexpr.specs.declared.form.Form.{Form, Form-F, fold-Form}
@@ -47,6 +47,16 @@ abbrev mutual
   pub depths : Trees → ℕ
   depths no_trees = 0
   depths (tree t ts) = max (depth t) (depths ts)
+
+-- how many atoms and lists a form has, with the form itself
+abbrev mutual
+  pub nodes : Tree → ℕ
+  nodes (atom p a) = 1
+  nodes (list p ts) = suc (all_nodes ts)
+
+  pub all_nodes : Trees → ℕ
+  all_nodes no_trees = 0
+  all_nodes (tree t ts) = nodes t + all_nodes ts
 
 -- the same form but for its places
 abbrev mutual

@@ -4,10 +4,12 @@
 mod bytes;
 mod ends;
 mod form;
+mod nodes;
 mod print;
 mod read;
 mod scan;
 
 pub use form::{Atom, Form, FormShape, Forms};
+pub use nodes::{MANY_NODES, count_all_nodes, count_nodes};
 pub use print::{print_forms, put_symbol, written_forms_read_back};
 pub use read::{FormEnd, end_of, read_forms, readings_are_one};

@@ -6,3 +6,4 @@ pub mod ReadSorts
 pub mod ReadingLaws
 pub mod WellSorted
 pub mod Failing
+pub mod BoundLaws

@@ -140,6 +140,7 @@ impl Bounds {
 
     /// Binds these names.
     pub fn bind_all(&mut self, names: &List<Local>) -> Result<(), NoMemory>
+        requires room { length self.old + length names.now ≤ 2 ^ 32 }
         ensures { OnOk result (self.new ≡ self.old ++ names.now) }
     {
         for local in names {
@@ -148,15 +149,12 @@ impl Bounds {
         Ok(())
     }
 
-    // Binds a name. There may be no more names than 32 bits can number.
+    // Binds a name.
     fn bind(&mut self, local: &Local) -> Result<(), NoMemory>
+        requires room { length self.old < 2 ^ 32 }
         ensures { OnOk result (self.new ≡ self.old ++ local.now ∷ []) }
     {
-        let count = self.len();
-        if count >= 1 << 32 {
-            return Err(NoMemory);
-        }
-        let number = count as u32;
+        let number = self.len() as u32;
         let key = key_of(
             self.alloc,
             &mut self.names,

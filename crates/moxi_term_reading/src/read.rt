@@ -1,11 +1,11 @@
 // The term that a form spells.
-ghost use Rattle.std.specs.Prelude.{◌≡◌, ◌<◌, ◌^◌, ◌++◌, [], List, None, Some, length, IfOk, OnOk};
+ghost use Rattle.std.specs.Prelude.{◌≡◌, ◌<◌, ◌+◌, ◌^◌, ◌++◌, [], List, None, Some, length, IfOk, OnOk};
 ghost use Rattle.moxi_term_reading.specs.declared.locals.Local.{Local};
 ghost use Rattle.moxi_term_reading.specs.declared.outcome.ReadTerm.{ReadTerm};
 ghost use Rattle.moxi_terms.specs.Tree.{sorts_of};
 ghost use Rattle.moxi_terms.specs.View.{plain};
 ghost use Rattle.text_core.specs.declared.place.Refusal.{Refusal};
-ghost use Rattle.moxi_sexpr.specs.Tree.{Tree, list as list_form, plain as plain_form, plain_forms};
+ghost use Rattle.moxi_sexpr.specs.Tree.{Tree, all_nodes, nodes, list as list_form, plain as plain_form, plain_forms};
 ghost use Rattle.moxi_term_reading.specs.Answer.{Answers, AreBound, AreStacked, IsAdded, IsRead, context_of, locals_of};
 ghost use Rattle.moxi_term_reading.specs.Failures.{least};
 ghost use Rattle.moxi_terms.specs.declared.data.Sort.{Sort};
@@ -21,7 +21,7 @@ use crate::lets::{ReadBindings, bind_to, let_term, misshapen, some_binding};
 use crate::locals::{Bounds, Locals};
 use crate::outcome::{ReadTerm, Setting, failed};
 use crate::sorts::refusal;
-use moxi_sexpr::{Form, FormShape};
+use moxi_sexpr::{Form, FormShape, MANY_NODES, count_nodes};
 use moxi_terms::{Primes, Scope, Sort, Term, Variables};
 use std::alloc::Global;
 use text_core::kinds::moxi;
@@ -31,6 +31,8 @@ use text_core::{End, List, Name, Names, NoMemory, Place, Refusal};
 pub type TermEnd = End;
 
 // Reads a form. The stack holds the sorts of the arguments read so far, for each application around the form.
+//
+// Bound names are numbered with 32 bits. A `let` binds no more names than its list has nodes.
 #[cycle(read)]
 #[inline(never)]
 fn read_form(
@@ -40,6 +42,7 @@ fn read_form(
     sorts: &mut Vec<Sort>,
     form: &Form,
 ) -> Result<ReadTerm, NoMemory>
+    requires few { length bounds.old + nodes (plain_form form.now) < 2 ^ 32 }
     ensures read { IfOk result (IsRead (read (context_of setting.entry) bounds.old (plain_form form.now))) }
     ensures kept { OnOk result (bounds.new ≡ bounds.old) }
     ensures stack { OnOk result (sorts.new.items ≡ sorts.old.items) }
@@ -60,6 +63,7 @@ fn read_list(
     p: Place,
     parts: &[Form],
 ) -> Result<ReadTerm, NoMemory>
+    requires few { length bounds.old + all_nodes (plain_forms parts.now) < 2 ^ 32 }
     ensures read { IfOk result (IsRead (read (context_of setting.entry) bounds.old (list_form p (plain_forms parts.now)))) }
     ensures kept { OnOk result (bounds.new ≡ bounds.old) }
     ensures stack { OnOk result (sorts.new.items ≡ sorts.old.items) }
@@ -90,6 +94,7 @@ fn read_application(
     head: &Form,
     rest: &[Form],
 ) -> Result<ReadTerm, NoMemory>
+    requires few { length bounds.old + all_nodes (plain_forms rest.now) < 2 ^ 32 }
     ensures read { IfOk result (IsRead (applied_reading (context_of setting.entry) bounds.old p (plain_form head.now) (plain_forms rest.now))) }
     ensures kept { OnOk result (bounds.new ≡ bounds.old) }
     ensures stack { OnOk result (sorts.new.items ≡ sorts.old.items) }
@@ -117,6 +122,7 @@ fn read_all(
     sorts: &mut Vec<Sort>,
     forms: &[Form],
 ) -> Result<ReadArguments, NoMemory>
+    requires few { length bounds.old + all_nodes (plain_forms forms.now) < 2 ^ 32 }
     ensures read { IfOk result (λ args. AreStacked (read_all (context_of setting.entry) bounds.old (plain_forms forms.now)) args sorts.old.items sorts.new.items) }
     ensures kept { OnOk result (bounds.new ≡ bounds.old) }
 {
@@ -141,6 +147,7 @@ fn read_argument(
     form: &Form,
     args: &mut ReadArguments,
 ) -> Result<(), NoMemory>
+    requires few { length bounds.old + nodes (plain_form form.now) < 2 ^ 32 }
     ensures read { OnOk result (IsAdded (read (context_of setting.entry) bounds.old (plain_form form.now)) args.old sorts.old.items args.new sorts.new.items) }
     ensures kept { OnOk result (bounds.new ≡ bounds.old) }
 {
@@ -165,6 +172,7 @@ fn read_let(
     primes: Option<Refusal>,
     rest: &[Form],
 ) -> Result<ReadTerm, NoMemory>
+    requires few { length bounds.old + all_nodes (plain_forms rest.now) < 2 ^ 32 }
     ensures read { IfOk result (λ r. (fs : List Refusal) → primes ≡ least fs → IsRead (read_let (context_of setting.entry) bounds.old p fs (plain_forms rest.now)) r) }
     ensures kept { OnOk result (bounds.new ≡ bounds.old) }
     ensures stack { OnOk result (sorts.new.items ≡ sorts.old.items) }
@@ -194,6 +202,7 @@ fn read_body(
     bindings: ReadBindings,
     body: &Form,
 ) -> Result<ReadTerm, NoMemory>
+    requires few { length bounds.old + (length bindings.locals + nodes (plain_form body.now)) < 2 ^ 32 }
     ensures read { IfOk result (λ r. (fs : List Refusal) (x : Bindings) → failure ≡ least fs → AreBound x bindings → IsRead (let_reading fs x (read (context_of setting.entry) (bounds.old ++ x.locals) (plain_form body.now))) r) }
     ensures kept { OnOk result (bounds.new ≡ bounds.old) }
     ensures stack { OnOk result (sorts.new.items ≡ sorts.old.items) }
@@ -216,6 +225,7 @@ fn read_bindings(
     q: Place,
     forms: &[Form],
 ) -> Result<ReadBindings, NoMemory>
+    requires few { length bounds.old + all_nodes (plain_forms forms.now) < 2 ^ 32 }
     ensures read { IfOk result (AreBound (read_bindings (context_of setting.entry) bounds.old q (plain_forms forms.now))) }
     ensures kept { OnOk result (bounds.new ≡ bounds.old) }
     ensures stack { OnOk result (sorts.new.items ≡ sorts.old.items) }
@@ -245,6 +255,7 @@ fn read_binding(
     form: &Form,
     all: &mut ReadBindings,
 ) -> Result<(), NoMemory>
+    requires few { length bounds.old + nodes (plain_form form.now) < 2 ^ 32 }
     ensures read { OnOk result ((x : Bindings) → AreBound x all.old → AreBound (both_bindings x (read_binding (context_of setting.entry) bounds.old q (plain_form form.now))) all.new) }
     ensures kept { OnOk result (bounds.new ≡ bounds.old) }
     ensures stack { OnOk result (sorts.new.items ≡ sorts.old.items) }
@@ -276,7 +287,7 @@ fn read_binding(
 /// Reads the term that a form spells over these variables, its sort, and its failing test.
 ///
 /// That test is the one of M4 to M8 and M12 with the least place. A variable without a sort is one whose own declaration
-/// fails a test.
+/// fails a test. The names that `let`s bind are numbered with 32 bits, so the form has fewer than 2^32 nodes.
 pub fn read_term(
     alloc: Global,
     scope: &Scope,
@@ -284,6 +295,7 @@ pub fn read_term(
     form: &Form,
     primes: Primes,
 ) -> Result<ReadTerm, NoMemory>
+    requires few { nodes (plain_form form.now) < 2 ^ 32 }
     ensures { IfOk result (IsRead (read (record { scope = scope.now; variables = locals.now; primes = primes }) [] (plain_form form.now))) }
 {
     let mut bounds = Bounds::new(alloc);
@@ -311,7 +323,8 @@ fn by_name(alloc: Global, variables: &Variables) -> Result<Locals, NoMemory>
 /// Returns the term that a form spells over these variables, and its sort.
 ///
 /// A refusal is the failing test of M4 to M8 and M12 with the least place, and at one place with the least number. The term
-/// is well sorted: it may be evaluated, and it may be the body of a function.
+/// is well sorted: it may be evaluated, and it may be the body of a function. The names that `let`s bind are numbered with
+/// 32 bits, so a form of 2^32 or more atoms and lists counts as out of memory. No text of up to 2^31 bytes has as many.
 pub fn term_of(
     alloc: Global,
     scope: &Scope,
@@ -323,6 +336,9 @@ pub fn term_of(
     ensures answers { Answers (read (record { scope = scope.now; variables = locals_of variables.now; primes = primes }) [] (plain_form form.now)) result }
     ensures sorted { IfOk result (λ r. IsTerm scope.now primes (sorts_of variables.now) [] (plain r.0) r.1) }
 {
+    if count_nodes(form) == MANY_NODES {
+        return Err(TermEnd::NoMemory);
+    }
     let locals = by_name(alloc, variables)?;
     let r = read_term(alloc, scope, &locals, form, primes)?;
     match (r.failure, r.sort) {

@@ -7,8 +7,9 @@ use Rattle.smv_text.specs.declared.tree.Parameter.{Parameter}
 use Rattle.smv_text.specs.Tree.{Trees, PlainDomain, boolean, members, between, bits, instance, PlainItem, PlainElement, vars, defines, constants, assigns, init, trans, invar, spec, PlainModule, PlainSource}
 use Rattle.smv_meaning.specs.Instances.{Instance, dotted, module_named, placed, child_in, child_of, with_child, grow_items, grow_elements, grow, main_name, main_instance, grown_from, instances_of}
 use Rattle.smv_meaning.specs.Phases.{Declared, element_declares, declared_in}
+use Rattle.smv_items.specs.laws.Declarations.{name_of, declared_names, DiffersInside}
 use Rattle.smv_accepted.specs.Names.{IsIdentifier}
-use Rattle.smv_accepted.proofs.Lists.{all_weaker, all_unmapped, differ_joined, Within, none_left, kept, passed, within_joined, within_itself, none_within, all_within, differ_within}
+use Rattle.smv_items.specs.laws.Differing.{all_weaker, all_unmapped, differ_joined, Within, none_left, kept, passed, within_joined, within_itself, none_within, all_within, differ_within}
 use Rattle.smv_accepted.proofs.Dotted.{Tail, ended, onward, identifier_dotless, identifier_some, same_front, dotted_is, IsPath, dotted_path}
 use Rattle.smv_accepted.proofs.Spelled.{HasIdentifiers}
 use Rattle.name_maps.proofs.FreshNames.{AllDiffer, Lacks, all_back, all_front, all_joined, all_mapped}
@@ -18,16 +19,6 @@ use Rattle.name_maps.proofs.FreshNames.{AllDiffer, Lacks, all_back, all_front, a
 pub record IsWellNamed (at : Instance) : Type 0 where
   pub identifiers : HasIdentifiers at.module
   pub path : IsPath at.path
-
-abbrev pub name_of : Declared → List ℕ
-name_of d = d.name
-
-abbrev pub declared_names : PlainModule → List (List ℕ)
-declared_names m = map name_of (declared_in m)
-
--- the declarations of its module differ
-abbrev pub DiffersInside : Instance → Type 0
-DiffersInside at = AllDiffer (declared_names at.module)
 
 abbrev pub path_at : Instance → List ℕ
 path_at at = at.path

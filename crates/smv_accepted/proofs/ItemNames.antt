@@ -1,5 +1,5 @@
 -- The dotted names of a model's items.
-use Rattle.std.proofs.Common.{◌≡◌, ◌≢◌, ℕ, ◌+◌, List, [], ◌∷◌, ◌++◌, map, length, Option, Some, None, refl, sym, ap, ◌∙◌, subst, subst₂, append_assoc}
+use Rattle.std.proofs.Common.{◌≡◌, ◌≢◌, ℕ, ◌+◌, List, [], ◌∷◌, ◌++◌, map, length, Some, refl, sym, ap, ◌∙◌, subst, append_assoc}
 use Rattle.std.specs.Prelude.{slice_get}
 use Rattle.std.specs.List.{AllByRecursion, flat_map}
 use Rattle.std.proofs.lemmas.List.{map-append, length_push}
@@ -7,21 +7,20 @@ use Rattle.text_core.specs.declared.place.Place.{Place}
 use Rattle.smv_text.specs.declared.token.Token.{Token}
 use Rattle.smv_text.specs.Lexing.{Lexes}
 use Rattle.smv_text.specs.Sources.{SpellsSource}
-use Rattle.smv_text.specs.declared.tree.Parameter.{Parameter}
-use Rattle.smv_text.specs.declared.tree.VarKind.{VarKind}
-use Rattle.smv_text.specs.Tree.{Trees, no_trees, tree, PlainItem, PlainDefinition, PlainElement, vars, defines, constants, assigns, init, trans, invar, spec, PlainSource}
+use Rattle.smv_text.specs.Tree.{PlainSource}
 use Rattle.smv_meaning.specs.Instances.{Instance, dotted, instances_of}
-use Rattle.smv_meaning.specs.Names.{parent_of, path_in}
-use Rattle.smv_meaning.specs.Phases.{Declared, element_declares, declared_in, IsAccepted, over_instances}
-use Rattle.smv_items.specs.FlatItems.{Content, Origin, with_content, actual_content, actual_items, domain_content, variable_item, definition_item, element_items, items_here, path_of, element_symbols}
+use Rattle.smv_meaning.specs.Names.{path_in}
+use Rattle.smv_meaning.specs.Phases.{declared_in, IsAccepted, over_instances}
+use Rattle.smv_items.specs.FlatItems.{Origin, items_here, path_of, element_symbols}
 use Rattle.smv_accepted.specs.Names.{IsIdentifier, IsDottedName}
 use Rattle.smv_accepted.specs.NameLaws.{item_names, NamesDiffer, NamesAreDistinct, NamesAreWords, SymbolsAreWords}
-use Rattle.smv_accepted.proofs.Lists.{all_weaker, differ_joined, differ_mapped, Within, none_left, kept, passed, within_joined, none_within, all_within, differ_within}
+use Rattle.smv_items.specs.laws.OriginLemmas.{AllOwn, own_here}
+use Rattle.smv_items.specs.laws.Differing.{all_weaker, differ_joined, differ_mapped, Within, all_within, differ_within}
+use Rattle.smv_items.specs.laws.Declarations.{name_of, declared_names, DiffersInside, accepted_differ, here_within as items_within}
 use Rattle.smv_accepted.proofs.Dotted.{identifier_dotless, dotted_once, dotted_named}
 use Rattle.smv_accepted.proofs.Spelled.{tokens_named, modules_identifiers}
 use Rattle.smv_accepted.proofs.Symbols.{gathered_all, occurs_once}
-use Rattle.smv_accepted.proofs.Grown.{IsWellNamed, name_of, declared_names, DiffersInside, path_at, are_instances}
-use Rattle.smv_accepted.proofs.Declared.{accepted_differ}
+use Rattle.smv_accepted.proofs.Grown.{IsWellNamed, path_at, are_instances}
 use Rattle.name_maps.proofs.FreshNames.{AllDiffer, Lacks, all_fresh, all_joined, all_mapped}
 
 -- ---- the names of an instance's items are among its declarations
@@ -29,109 +28,19 @@ use Rattle.name_maps.proofs.FreshNames.{AllDiffer, Lacks, all_fresh, all_joined,
 abbrev origin_name : Origin → List ℕ
 origin_name m = m.name
 
-maybe_within : (i : ℕ) (x : List ℕ) (o : Option Content) → Within (map origin_name (with_content i x o)) (x ∷ [])
-maybe_within i x None = passed x [] [] none_left
-maybe_within i x (Some c) = kept x [] [] none_left
-
-abbrev parameter_declared : Parameter → Declared
-parameter_declared q = record { name = q.name; place = q.place; item = None }
-
-actuals_within : (i j : ℕ) (qs : List Parameter) (es : Trees) → Within (map origin_name (actual_items i j qs es)) (map name_of (map parameter_declared qs))
-actuals_within i j [] es = none_left
-actuals_within i j (q ∷ qs) no_trees = none_within (map name_of (map parameter_declared (q ∷ qs)))
-actuals_within i j (q ∷ qs) (tree e es) =
-    subst (λ (l : List (List ℕ)). Within l (map name_of (map parameter_declared (q ∷ qs)))) (sym (map-append origin_name (with_content i q.name (actual_content j e)) (actual_items i j qs es)))
-    (within_joined (maybe_within i q.name (actual_content j e)) (actuals_within i j qs es))
-
-abbrev item_declared : PlainItem → Declared
-item_declared v = record { name = v.name; place = v.place; item = Some v }
-
-variables_within : (i : ℕ) (kind : VarKind) (items : List PlainItem) → Within (map origin_name (flat_map (variable_item i kind) items)) (map name_of (map item_declared items))
-variables_within i kind [] = none_left
-variables_within i kind (v ∷ items) =
-    subst (λ (l : List (List ℕ)). Within l (map name_of (map item_declared (v ∷ items)))) (sym (map-append origin_name (variable_item i kind v) (flat_map (variable_item i kind) items)))
-    (within_joined (maybe_within i v.name (domain_content kind v.domain)) (variables_within i kind items))
-
-abbrev definition_declared : PlainDefinition → Declared
-definition_declared d = record { name = d.name; place = d.place; item = None }
-
-definitions_within : (i : ℕ) (ds : List PlainDefinition) → Within (map origin_name (map (definition_item i) ds)) (map name_of (map definition_declared ds))
-definitions_within i [] = none_left
-definitions_within i (d ∷ ds) = kept d.name (map origin_name (map (definition_item i) ds)) (map name_of (map definition_declared ds)) (definitions_within i ds)
-
-element_within : (i : ℕ) (e : PlainElement) → Within (map origin_name (element_items i e)) (map name_of (element_declares e))
-element_within i (vars kind items) = variables_within i kind items
-element_within i (defines ds) = definitions_within i ds
-element_within i (constants cs) = none_left
-element_within i (assigns xs) = none_left
-element_within i (init e) = none_left
-element_within i (trans e) = none_left
-element_within i (invar e) = none_left
-element_within i (spec o e) = none_left
-
-elements_within : (i : ℕ) (es : List PlainElement) → Within (map origin_name (flat_map (element_items i) es)) (map name_of (flat_map element_declares es))
-elements_within i [] = none_left
-elements_within i (e ∷ es) =
-    subst₂ Within (sym (map-append origin_name (element_items i e) (flat_map (element_items i) es))) (sym (map-append name_of (element_declares e) (flat_map element_declares es)))
-    (within_joined (element_within i e) (elements_within i es))
-
 -- the names of the items of an instance
 abbrev names_here : ℕ → Instance → List (List ℕ)
 names_here i at = map origin_name (items_here i at)
 
 here_within : (i : ℕ) (at : Instance) → Within (names_here i at) (declared_names at.module)
-here_within i at =
-    subst₂ Within (sym (map-append origin_name (actual_items i (parent_of at) at.module.parameters at.actuals) (flat_map (element_items i) at.module.elements)))
-    (sym (map-append name_of (map parameter_declared at.module.parameters) (flat_map element_declares at.module.elements)))
-    (within_joined (actuals_within i (parent_of at) at.module.parameters at.actuals) (elements_within i at.module.elements))
-
--- ---- items are in their instances
-
-abbrev IsIn : ℕ → Origin → Type 0
-IsIn i m = m.instance ≡ i
-
-maybe_in : (i : ℕ) (x : List ℕ) (o : Option Content) → AllByRecursion (IsIn i) (with_content i x o)
-maybe_in i x None = tt
-maybe_in i x (Some c) = (refl, tt)
-
-actuals_in : (i j : ℕ) (qs : List Parameter) (es : Trees) → AllByRecursion (IsIn i) (actual_items i j qs es)
-actuals_in i j [] es = tt
-actuals_in i j (q ∷ qs) no_trees = tt
-actuals_in i j (q ∷ qs) (tree e es) = all_joined (IsIn i) (with_content i q.name (actual_content j e)) (actual_items i j qs es) (maybe_in i q.name (actual_content j e)) (actuals_in i j qs es)
-
-variables_in : (i : ℕ) (kind : VarKind) (items : List PlainItem) → AllByRecursion (IsIn i) (flat_map (variable_item i kind) items)
-variables_in i kind [] = tt
-variables_in i kind (v ∷ items) = all_joined (IsIn i) (variable_item i kind v) (flat_map (variable_item i kind) items) (maybe_in i v.name (domain_content kind v.domain)) (variables_in i kind items)
-
-definitions_in : (i : ℕ) (ds : List PlainDefinition) → AllByRecursion (IsIn i) (map (definition_item i) ds)
-definitions_in i [] = tt
-definitions_in i (d ∷ ds) = (refl, definitions_in i ds)
-
-element_in : (i : ℕ) (e : PlainElement) → AllByRecursion (IsIn i) (element_items i e)
-element_in i (vars kind items) = variables_in i kind items
-element_in i (defines ds) = definitions_in i ds
-element_in i (constants cs) = tt
-element_in i (assigns xs) = tt
-element_in i (init e) = tt
-element_in i (trans e) = tt
-element_in i (invar e) = tt
-element_in i (spec o e) = tt
-
-elements_in : (i : ℕ) (es : List PlainElement) → AllByRecursion (IsIn i) (flat_map (element_items i) es)
-elements_in i [] = tt
-elements_in i (e ∷ es) = all_joined (IsIn i) (element_items i e) (flat_map (element_items i) es) (element_in i e) (elements_in i es)
-
-here_in : (i : ℕ) (at : Instance) → AllByRecursion (IsIn i) (items_here i at)
-here_in i at =
-    all_joined (IsIn i) (actual_items i (parent_of at) at.module.parameters at.actuals) (flat_map (element_items i) at.module.elements)
-    (actuals_in i (parent_of at) at.module.parameters at.actuals) (elements_in i at.module.elements)
+here_within i at = items_within (λ n x. x) i at
 
 -- ---- the dotted names, instance by instance
 
 abbrev dotted_here : ℕ → Instance → List (List ℕ)
 dotted_here i at = map (dotted at.path) (names_here i at)
 
-dotted_items : (t : List Instance) (i : ℕ) (at : Instance) → slice_get t i ≡ Some at → (ms : List Origin) → AllByRecursion (IsIn i) ms → map (path_of t) ms ≡ map (dotted at.path) (map origin_name ms)
+dotted_items : (t : List Instance) (i : ℕ) (at : Instance) → slice_get t i ≡ Some at → (ms : List Origin) → AllOwn i ms → map (path_of t) ms ≡ map (dotted at.path) (map origin_name ms)
 dotted_items t i at e [] h = refl
 dotted_items t i at e (m ∷ ms) h =
     let first : path_of t m ≡ dotted at.path m.name = ap (λ j. dotted (path_in (slice_get t j)) m.name) h.0 ∙ ap (λ o. dotted (path_in o) m.name) e in
@@ -151,7 +60,7 @@ dotted_from t front (at ∷ rest) e =
     let later : map (path_of t) (over_instances items_here (length (front ++ at ∷ [])) rest) ≡ over_instances dotted_here (length (front ++ at ∷ [])) rest
     = dotted_from t (front ++ at ∷ []) rest (e ∙ sym (append_assoc front (at ∷ []) rest)) in
     map-append (path_of t) (items_here i at) (over_instances items_here (i + 1) rest)
-    ∙ ap (λ l. l ++ map (path_of t) (over_instances items_here (i + 1) rest)) (dotted_items t i at at_i (items_here i at) (here_in i at))
+    ∙ ap (λ l. l ++ map (path_of t) (over_instances items_here (i + 1) rest)) (dotted_items t i at at_i (items_here i at) (own_here i at))
     ∙ ap (λ l. dotted_here i at ++ l) (subst (λ k. map (path_of t) (over_instances items_here k rest) ≡ over_instances dotted_here k rest) n later)
 
 pub names_are : (t : List Instance) → item_names t ≡ over_instances dotted_here 0 t

@@ -1,10 +1,8 @@
 pub mod Literals
-pub mod Lists
 pub mod Symbols
 pub mod Dotted
 pub mod Spelled
 pub mod Grown
-pub mod Declared
 pub mod ItemNames
 pub mod Limits
 pub mod Widths

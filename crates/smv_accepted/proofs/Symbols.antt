@@ -10,16 +10,9 @@ use Rattle.name_maps.specs.Names.{place_of}
 use Rattle.smv_meaning.specs.Instances.{Instance, is_one_of}
 use Rattle.smv_items.specs.FlatItems.{element_symbols, gathered, symbols_of}
 use Rattle.smv_accepted.specs.NameLaws.{SymbolsDiffer, SymbolsAreDistinct}
-use Rattle.smv_accepted.proofs.Lists.{differ_joined, apart_told}
+use Rattle.smv_items.specs.laws.Differing.{differ_joined}
+use Rattle.smv_items.specs.laws.Declarations.{one_of_lacks}
 use Rattle.name_maps.proofs.FreshNames.{AllDiffer, Lacks, all_fresh, all_joined, tells_apart}
-
-either_false : (a b : Bool) → (a || b) ≡ false → (a ≡ false) × (b ≡ false)
-either_false true b h = cc
-either_false false b h = (refl, h)
-
-pub one_of_lacks : (xs : List (List ℕ)) (x : List ℕ) → is_one_of xs x ≡ false → Lacks xs x
-one_of_lacks [] x h = tt
-one_of_lacks (y ∷ ys) x h = let p = either_false (bytes_eq y x) (is_one_of ys x) h in (apart_told y x p.0, one_of_lacks ys x p.1)
 
 with_last : (seen : List (List ℕ)) (x : List ℕ) → Lacks seen x → AllByRecursion (λ y. Lacks (x ∷ []) y) seen
 with_last [] x h = tt

@@ -18,7 +18,7 @@ use Rattle.smv_meaning.specs.laws.Booleans.{both_true, or_true, absurd_bool}
 use Rattle.smv_laws.proofs.Cycles.{In, any_in, same_is}
 use Rattle.smv_laws.proofs.Ranked.{key, keys_of, in_keys}
 use Rattle.smv_laws.proofs.Settling.{Under}
-use Rattle.smv_evaluation.proofs.Positions.{order_rank, at_place, rank_low, rank_at, body_before}
+use Rattle.smv_laws.proofs.Positions.{order_rank, at_place, rank_low, rank_at, body_before}
 
 -- definitions and actuals that are marked
 abbrev Marks : Type 0 → Type 0

@@ -2,5 +2,6 @@ pub mod FlatTree
 pub mod FlatForms
 pub mod FlatView
 pub mod FlatFormulas
+pub mod FlatParts
 pub mod Targets
 pub mod laws

@@ -9,6 +9,7 @@ mod formulas;
 mod naming;
 mod node_types;
 mod nodes;
+mod parts;
 mod targets;
 
 pub use expressions::{
@@ -17,3 +18,4 @@ pub use expressions::{
 pub use forms::{FlatFormula, Role};
 pub use formulas::formulas_in;
 pub use naming::Naming;
+pub use parts::FlatParts;

@@ -12,13 +12,13 @@ ghost use Rattle.smv_flat_evaluation.specs.RowValues.{row_values, row_denote, ro
 ghost use Rattle.smv_flat_evaluation.specs.Fronts.{row_chain, row_implications, row_fronts_value, row_fronts_permit};
 ghost use Rattle.smv_flat_evaluation.specs.FlatSafety.{RowSafe, RowSafeLinks, RowSafeOperands, RowSafeBranches, RowSafeTrees};
 
+use name_maps::NameSet;
 use smv_flat::{FlatBranch, FlatExpr, FlatLink, FlatShape};
 use smv_operators::{
     Plain, Seen, apply, are_same, are_same_plain, call_one, call_two, copy_value, implication,
     no_plain, no_seen, prefix_value, seen_of, selection, truth_of,
 };
 use smv_text::{Function, Infix};
-use text_core::Names;
 
 /// Returns the value of the item with this number in a row, or the stand-in for a missing value where the row is too
 /// short.
@@ -33,12 +33,12 @@ pub fn item_at<'a>(row: &[Seen<'a>], k: usize) -> Seen<'a>
 }
 
 // The value of the symbol with this number.
-fn symbol_at<'a>(symbols: &'a Names, s: u32) -> Seen<'a>
+fn symbol_at<'a>(symbols: &'a NameSet, s: u32) -> Seen<'a>
     ensures { seen_value result ≡ symbol_value symbols.now s }
 {
     let s = s as usize;
     if s < symbols.len() {
-        Seen::Symbol(symbols.at(s).bytes())
+        Seen::Symbol(symbols.at(s))
     } else {
         no_seen()
     }
@@ -99,7 +99,7 @@ fn is_implication(op: Infix) -> bool
 /// following state, which `next` reads.
 #[cycle(evaluation)]
 pub fn evaluate<'a>(
-    symbols: &'a Names,
+    symbols: &'a NameSet,
     e: &FlatExpr,
     now: &[Seen<'a>],
     later: &[Seen<'a>],
@@ -149,7 +149,7 @@ pub fn evaluate<'a>(
 // The value of a chain, given the value of its first operand.
 #[cycle(evaluation)]
 fn chained<'a>(
-    symbols: &'a Names,
+    symbols: &'a NameSet,
     first: &Seen<'a>,
     links: &[FlatLink],
     now: &[Seen<'a>],
@@ -169,7 +169,7 @@ fn chained<'a>(
 // The value of the implications from the first operand on.
 #[cycle(evaluation)]
 fn rest_implied<'a>(
-    symbols: &'a Names,
+    symbols: &'a NameSet,
     first: &Seen<'a>,
     links: &[FlatLink],
     now: &[Seen<'a>],
@@ -191,7 +191,7 @@ fn rest_implied<'a>(
 // The value of a left-associative chain, given the value of its first operand.
 #[cycle(evaluation)]
 fn last_front<'a>(
-    symbols: &'a Names,
+    symbols: &'a NameSet,
     first: &Seen<'a>,
     links: &[FlatLink],
     now: &[Seen<'a>],
@@ -212,7 +212,7 @@ fn last_front<'a>(
 // The value of a chain's prefix with the next operator and operand applied.
 #[cycle(evaluation)]
 fn next_front<'a>(
-    symbols: &'a Names,
+    symbols: &'a NameSet,
     op: Infix,
     front: &Seen<'a>,
     operand: &FlatExpr,
@@ -236,7 +236,7 @@ fn next_front<'a>(
 // The value of the first branch whose condition is true, or else of the expression after the last colon.
 #[cycle(evaluation)]
 fn chosen<'a>(
-    symbols: &'a Names,
+    symbols: &'a NameSet,
     branches: &[FlatBranch],
     last: &FlatExpr,
     now: &[Seen<'a>],
@@ -260,7 +260,7 @@ fn chosen<'a>(
 // The value of the first branch whose condition is true, or else of the last branch.
 #[cycle(evaluation)]
 fn taken<'a>(
-    symbols: &'a Names,
+    symbols: &'a NameSet,
     branches: &[FlatBranch],
     now: &[Seen<'a>],
     later: &[Seen<'a>],
@@ -277,7 +277,7 @@ fn taken<'a>(
 // The value of a function of its arguments.
 #[cycle(evaluation)]
 fn call_value<'a>(
-    symbols: &'a Names,
+    symbols: &'a NameSet,
     f: Function,
     arguments: &[FlatExpr],
     now: &[Seen<'a>],
@@ -320,7 +320,7 @@ fn call_value<'a>(
 /// Returns whether the expression permits the value.
 #[cycle(evaluation)]
 pub fn permits<'a>(
-    symbols: &'a Names,
+    symbols: &'a NameSet,
     e: &FlatExpr,
     value: &Seen<'a>,
     now: &[Seen<'a>],
@@ -359,7 +359,7 @@ pub fn permits<'a>(
 // Whether one of the expressions permits the value.
 #[cycle(evaluation)]
 fn one_permits<'a>(
-    symbols: &'a Names,
+    symbols: &'a NameSet,
     elements: &[FlatExpr],
     value: &Seen<'a>,
     now: &[Seen<'a>],
@@ -381,7 +381,7 @@ fn one_permits<'a>(
 // Whether a choice permits the value.
 #[cycle(evaluation)]
 fn chosen_permits<'a>(
-    symbols: &'a Names,
+    symbols: &'a NameSet,
     branches: &[FlatBranch],
     last: &FlatExpr,
     value: &Seen<'a>,
@@ -406,7 +406,7 @@ fn chosen_permits<'a>(
 // Whether a case permits the value.
 #[cycle(evaluation)]
 fn taken_permits<'a>(
-    symbols: &'a Names,
+    symbols: &'a NameSet,
     branches: &[FlatBranch],
     value: &Seen<'a>,
     now: &[Seen<'a>],
@@ -424,7 +424,7 @@ fn taken_permits<'a>(
 // Whether a chain permits the value, given the value of its first operand and whether that operand permits the value.
 #[cycle(evaluation)]
 fn last_permits<'a>(
-    symbols: &'a Names,
+    symbols: &'a NameSet,
     first: &Seen<'a>,
     first_has: bool,
     links: &[FlatLink],

@@ -8,3 +8,6 @@ pub mod FlatSections
 pub mod FlatStays
 pub mod FlatLaw
 pub mod FlatWithin
+pub mod FlatNames
+pub mod FlatOrders
+pub mod ItemOrders

@@ -1,3 +1,4 @@
 pub mod FlatTruth
 pub mod FlatLaws
 pub mod FlatBounds
+pub mod FlatOrders

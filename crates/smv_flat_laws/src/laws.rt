@@ -1,6 +1,7 @@
 // Laws of flat models and rows of values. These functions do nothing.
 ghost use Rattle.smv_flat_laws.specs.FlatLaws.{RowIsThere, RowIsOne, SameTruth};
 ghost use Rattle.smv_flat_laws.specs.FlatBounds.{NumbersLie};
+ghost use Rattle.smv_flat_laws.specs.FlatOrders.{FlatIsOrdered};
 
 /// Proves that, in an acyclic model, each state and label has a row of values that satisfies the bodies of the flat
 /// form.
@@ -24,4 +25,11 @@ pub fn same_truth()
 /// Proves that each number in the formulas of an accepted model's flat form is that of an existing item or symbol.
 pub fn numbers_lie()
     ensures { NumbersLie }
+{}
+
+/// Proves that an order of an accepted model's definitions and actuals gives one of the items of its flat form.
+///
+/// In both orders each body comes after what it reads.
+pub fn flat_is_ordered()
+    ensures { FlatIsOrdered }
 {}

@@ -6,4 +6,4 @@
 
 mod laws;
 
-pub use laws::{numbers_lie, row_is_one, row_is_there, same_truth};
+pub use laws::{flat_is_ordered, numbers_lie, row_is_one, row_is_there, same_truth};

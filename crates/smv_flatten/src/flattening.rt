@@ -5,7 +5,7 @@ ghost use Rattle.smv_meaning.specs.Instances.{instances_of, weight_of};
 ghost use Rattle.smv_meaning.specs.Phases.{checks_of, invariants_in, IsAccepted};
 ghost use Rattle.smv_instances.specs.View.{instance_plain};
 ghost use Rattle.smv_model_types.specs.Outcome.{AreTypesOf};
-ghost use Rattle.smv_items.specs.FlatItems.{origins_of, symbols_of, path_of, flat_item_of};
+ghost use Rattle.smv_items.specs.FlatItems.{origins_of, symbols_of, flat_item_of};
 ghost use Rattle.smv_items.specs.Counts.{AreFew};
 ghost use Rattle.smv_items.specs.FlatItemView.{item_plain};
 ghost use Rattle.smv_flat.specs.FlatForms.{forms_of, flat_of, flat_smv};
@@ -24,55 +24,48 @@ use crate::sequences::{FlatFormulas, FlatItems};
 use crate::type_names::TypeNames;
 use smv_flat::{FlatFormula, formulas_in};
 use smv_instances::Table;
-use smv_items::{FlatItem, Origin, Origins, Symbols, numbers_of, origins_in, paths_of, symbols_in};
+use smv_items::{FlatItem, Origin, Origins, Symbols, numbers_of, origins_in, symbols_in};
 use smv_model_types::Types;
 use smv_text::Source;
 use smv_width::width_of;
 use std::alloc::Global;
-use text_core::{Name, NoMemory};
+use text_core::NoMemory;
 
-// The origins of a model's items, their dotted paths, and the symbols.
+// The origins of a model's items, and the symbols.
 #[derive(Drop)]
 struct Sources<'a> {
     origins: Origins<'a>,
-    paths: Vec<Name>,
     symbols: Symbols,
 }
 
 fn sources_in<'a>(alloc: Global, table: &Table<'a>) -> Result<Sources<'a>, NoMemory>
     requires few { length table.now < 2 ^ 32 }
     ensures origins { IfOk result (λ s. map origin_plain s.origins.items ≡ origins_of (map instance_plain table.now)) }
-    ensures paths { IfOk result (λ s. s.paths.items ≡ map (path_of (map instance_plain table.now)) (map origin_plain s.origins.items)) }
     ensures symbols { IfOk result (λ s. s.symbols ≡ symbols_of (map instance_plain table.now)) }
 {
     let symbols = symbols_in(alloc, table)?;
     let origins = origins_in(alloc, table)?;
-    let paths = paths_of(alloc, table, &origins)?;
-    Ok(Sources {
-        origins,
-        paths,
-        symbols,
-    })
+    Ok(Sources { origins, symbols })
 }
 
-// The formulas over the numbers of these items, given the items' dotted paths.
+// The formulas over the numbers of these items.
+#[tactic(auto, using(crate::proofs::Lists::names_are, crate::proofs::Lists::as_many))]
 fn flat_formulas<'a>(
     alloc: Global,
     table: &Table<'a>,
     types: &Types<'a>,
     origins: &[Origin<'a>],
-    paths: &[Name],
+    items: &[FlatItem],
     symbols: &Symbols,
 ) -> Result<Vec<FlatFormula>, NoMemory>
     requires typed { AreTypesOf (map instance_plain table.now) types.now }
     requires origins { map origin_plain origins.now ≡ origins_of (map instance_plain table.now) }
-    requires long { length paths.now ≡ length origins.now }
-    requires paths { paths.now ≡ map (path_of (map instance_plain table.now)) (map origin_plain origins.now) }
+    requires items { map item_plain items.now ≡ map (flat_item_of (map instance_plain table.now)) (map origin_plain origins.now) }
     requires symbols { symbols.now ≡ symbols_of (map instance_plain table.now) }
     requires few { AreFew (map instance_plain table.now) }
     ensures { IfOk result (λ fs. map form_plain fs.items ≡ forms_of (map instance_plain table.now)) }
 {
-    let numbers = numbers_of(alloc, origins, paths)?;
+    let numbers = numbers_of(alloc, origins, items)?;
     let names = TypeNames { table, types };
     formulas_in(alloc, &names, table, origins, &numbers, symbols)
 }
@@ -93,7 +86,6 @@ fn contents_of<'a>(
 ) -> Result<Contents, NoMemory>
     requires typed { AreTypesOf (map instance_plain table.now) types.now }
     requires origins { map origin_plain sources.now.origins.items ≡ origins_of (map instance_plain table.now) }
-    requires paths { sources.now.paths.items ≡ map (path_of (map instance_plain table.now)) (map origin_plain sources.now.origins.items) }
     requires symbols { sources.now.symbols ≡ symbols_of (map instance_plain table.now) }
     requires few { AreFew (map instance_plain table.now) }
     ensures items { IfOk result (λ x. map item_plain x.items.items ≡ map (flat_item_of (map instance_plain table.now)) (origins_of (map instance_plain table.now))) }
@@ -102,9 +94,8 @@ fn contents_of<'a>(
     ensures bounds { IfOk result (λ x. (1 ≤ x.width) × (x.width ≤ 64)) }
 {
     let origins = sources.origins.as_slice();
-    let paths = sources.paths.as_slice();
-    let items = flat_items(alloc, table, types, origins, paths)?;
-    let formulas = flat_formulas(alloc, table, types, origins, paths, &sources.symbols)?;
+    let items = flat_items(alloc, table, types, origins)?;
+    let formulas = flat_formulas(alloc, table, types, origins, &items, &sources.symbols)?;
     let width = width_of(&items, &formulas);
     Ok(Contents {
         items,
@@ -127,11 +118,10 @@ fn flattened<'a>(alloc: Global, table: &Table<'a>, types: &Types<'a>) -> Result<
     let weight = weight_in(table);
     let invariants = invariant_count(table);
     let sources = sources_in(alloc, table)?;
-    let symbols = sources.symbols.names(alloc)?;
     let contents = contents_of(alloc, table, types, &sources)?;
     Ok(Flat {
         items: FlatItems::of(contents.items),
-        symbols,
+        symbols: sources.symbols.into_names(),
         formulas: FlatFormulas::of(contents.formulas),
         width: contents.width,
         weight,

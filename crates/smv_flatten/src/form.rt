@@ -3,8 +3,9 @@ ghost use Rattle.std.specs.Prelude.{◌≡◌, ◌≤◌};
 ghost use Rattle.smv_flatten.specs.FlatModel.{IsOfModel};
 
 use crate::sequences::{FlatFormulas, FlatItems};
+use name_maps::NameSet;
+use smv_flat::FlatParts;
 use std::marker::Model;
-use text_core::Names;
 
 /// The flat form of an accepted model.
 ///
@@ -13,7 +14,7 @@ use text_core::Names;
 #[derive(Drop)]
 pub struct Flat {
     pub(crate) items: FlatItems,
-    pub(crate) symbols: Names,
+    pub(crate) symbols: NameSet,
     pub(crate) formulas: FlatFormulas,
     pub(crate) width: u32,
     pub(crate) weight: u32,
@@ -49,7 +50,7 @@ impl Flat {
     }
 
     /// Returns the symbols of enumerations and CONSTANTS, each once, in the order of their first occurrence.
-    pub fn symbols(&self) -> &Names
+    pub fn symbols(&self) -> &NameSet
         ensures { result.now ≡ self.now.symbols }
     {
         &self.symbols
@@ -63,6 +64,19 @@ impl Flat {
         ensures { result.now ≡ self.now.formulas }
     {
         &self.formulas
+    }
+
+    /// Returns the items, the symbols and the formulas.
+    pub fn parts(&self) -> FlatParts<'_>
+        ensures items { result.items.now ≡ self.now.items }
+        ensures symbols { result.symbols.now ≡ self.now.symbols }
+        ensures formulas { result.formulas.now ≡ self.now.formulas }
+    {
+        FlatParts {
+            items: self.items.as_slice(),
+            symbols: &self.symbols,
+            formulas: self.formulas.as_slice(),
+        }
     }
 
     /// Returns the width of an integer in bits, from 1 to 64.

@@ -77,14 +77,6 @@ unfolding look
 open_is_cyclic t m h zero i x o = refl
 open_is_cyclic t m h (suc n) i x o = let w = h i x o in w.3 n (open_is_cyclic t m h n w.0 w.1 w.2)
 
-pub lead_one : (t : List Instance) (i : ℕ) (x : List ℕ) (l : Local) (lead : Lead) → l ≡ local t i x → lead.depth ≡ 1 → ((f : ℕ → List ℕ → Found) → landed t f i x l ≡ found_plain t lead.target)
-    → LeadsTo t (λ n. look t n i x) lead
-lead_one t i x l lead e d h n = look_one t i x l (found_plain t lead.target) e h n ∙ ap (λ r. until r n (found_plain t lead.target)) (sym d)
-
-pub deeper_leads : (t : List Instance) (i : ℕ) (x : List ℕ) (lead new : Lead) → new.depth ≡ lead.depth + 1 → new.target ≡ lead.target → ((n : ℕ) → look t n i x ≡ until (lead.depth + 1) n (found_plain t lead.target))
-    → LeadsTo t (λ n. look t n i x) new
-deeper_leads t i x lead new d e h n = h n ∙ ap (λ r. until r n (found_plain t lead.target)) (sym d) ∙ ap (λ g. until new.depth n (found_plain t g)) (sym e)
-
 pub key_same : (i : ℕ) (x : List ℕ) (key : Key) → is_key i x key ≡ true → (key.instance ≡ i) × (key.name.now ≡ x)
 key_same i x key h = let b = both_true (key.instance == i) (bytes_eq key.name.now x) h in (eqb-true key.instance i b.0, (bytes_eq-Decides key.name.now x).0 b.1)
 

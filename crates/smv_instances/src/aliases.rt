@@ -1,6 +1,5 @@
 // Computing the leads of all aliases.
-ghost use Rattle.std.specs.Prelude.{◌≡◌, ◌<◌, ◌+◌, ◌-◌, ◌^◌, Some, None, true, false, length, map, slice_index_or, IfOk, OnOk};
-ghost use Rattle.name_maps.specs.Rows.{row_in};
+ghost use Rattle.std.specs.Prelude.{◌≡◌, ◌<◌, Some, true, false, length, map, slice_index_or, IfOk, OnOk};
 ghost use Rattle.smv_instances.specs.Leads.{Right, IsOpen, StaysClosed, KeyWalk, WaitsIfOpen, AllWait, IsClosed, AreAll, AreCounted, led};
 ghost use Rattle.smv_instances.specs.View.{instance_plain};
 
@@ -12,41 +11,20 @@ use name_maps::{InstanceMap, add_row_in, no_rows_in, nothing_in, put_in, row_val
 use std::alloc::Global;
 use text_core::NoMemory;
 
-// One more level of depth. Before a lead is added there are fewer leads than parameters, so the depth does not
-// overflow.
-fn deeper<'a>(lead: Lead<'a>) -> Lead<'a>
-    requires { lead.depth < 2 ^ 64 - 1 }
-    ensures depth { result.depth ≡ lead.entry.depth + 1 }
-    ensures target { result.target ≡ lead.entry.target }
-{
-    Lead {
-        depth: lead.depth + 1,
-        target: lead.target,
-    }
-}
-
 // The walk of a parameter that is an alias without a stored lead.
-fn alias_walk<'a>(parts: &Parts<'a>, leads: &Leads<'a>, key: Key<'a>) -> Option<Walk<'a>>
-    requires right { Right (map instance_plain parts.now) leads.now }
-    requires new { row_in leads.now key.instance key.name.now ≡ None }
-    ensures { KeyWalk (map instance_plain parts.now) leads.now key.entry.instance key.entry.name.now result }
-{
-    match parts.local(key.instance, key.name) {
-        Known::Alias(j, path) => Some(path_walk(parts, leads, j, path)),
-        Known::Body(_, _) => None,
-        Known::Variable(_, _) => None,
-        Known::Instance => None,
-        Known::Nothing => None,
-    }
-}
-
 fn key_walk<'a>(parts: &Parts<'a>, leads: &Leads<'a>, key: Key<'a>) -> Option<Walk<'a>>
     requires right { Right (map instance_plain parts.now) leads.now }
     ensures { KeyWalk (map instance_plain parts.now) leads.now key.entry.instance key.entry.name.now result }
 {
     match row_value_in(leads, key.instance, key.name) {
         Some(_) => None,
-        None => alias_walk(parts, leads, key),
+        None => match parts.local(key.instance, key.name) {
+            Known::Alias(j, path) => Some(path_walk(parts, leads, j, path)),
+            Known::Body(_, _) => None,
+            Known::Variable(_, _) => None,
+            Known::Instance => None,
+            Known::Nothing => None,
+        },
     }
 }
 
@@ -68,7 +46,11 @@ fn keep_deeper<'a>(
     ensures stays { OnOk result (StaysClosed (map instance_plain parts.now) leads.old leads.new) }
     ensures closed { OnOk result (¬ IsOpen (map instance_plain parts.now) leads.new key.entry.instance key.entry.name.now) }
 {
-    let deep = deeper(lead);
+    // There are fewer leads than parameters before this one is added, so the depth does not overflow.
+    let deep = Lead {
+        depth: lead.depth + 1,
+        target: lead.target,
+    };
     add_row_in(leads, key.instance, key.name, deep)?;
     Ok(())
 }

@@ -1,5 +1,5 @@
 // A lookup table from a name in an instance to the instance that it names.
-ghost use Rattle.std.specs.Prelude.{◌≡◌, List, ℕ, Some, is_none, map, position, IfOk, OnOk, ◌&&◌, if◌then◌else◌};
+ghost use Rattle.std.specs.Prelude.{◌≡◌, List, ℕ, map, position, IfOk};
 ghost use Rattle.smv_meaning.specs.Names.{is_child};
 ghost use Rattle.name_maps.specs.Rows.{row_in};
 ghost use Rattle.smv_instances.specs.View.{instance_plain};
@@ -12,16 +12,6 @@ use text_core::NoMemory;
 /// Instance numbers, by the number of the enclosing instance and the name in it.
 pub type Children<'a> = InstanceRows<'a, usize>;
 
-#[tactic(auto, using(crate::specs::laws::ChildLemmas::unchanged))]
-fn put_part<'a>(children: &mut Children<'a>, c: usize, part: &Instance<'a>) -> Result<(), NoMemory>
-    ensures { OnOk result ((i : ℕ) (x : List ℕ) → row_in children.new i x ≡ (if is_none (row_in children.old i x) && is_child i x (instance_plain part.now) then Some c else row_in children.old i x)) }
-{
-    match part.parent {
-        None => Ok(()),
-        Some(i) => add_first_in(children, i, part.name, c),
-    }
-}
-
 /// Returns the first instance with each name, by the enclosing instance and the name.
 #[tactic(auto, using(crate::specs::laws::ChildLemmas::with_part, crate::specs::laws::ChildLemmas::whole))]
 pub fn children_of<'a>(alloc: Global, table: &[Instance<'a>]) -> Result<Children<'a>, NoMemory>
@@ -29,7 +19,11 @@ pub fn children_of<'a>(alloc: Global, table: &[Instance<'a>]) -> Result<Children
 {
     let mut children = no_rows_in(alloc, table.len())?;
     for c in 0..table.len() {
-        put_part(&mut children, c, &table[c])?;
+        let part = &table[c];
+        let Some(i) = part.parent else {
+            continue;
+        };
+        add_first_in(&mut children, i, part.name, c)?;
     }
     Ok(children)
 }

@@ -10,12 +10,6 @@ use smv_text::Parameters;
 use std::alloc::Global;
 use text_core::NoMemory;
 
-fn add_key<'a>(keys: &mut Vec<Key<'a>>, key: Key<'a>) -> Result<(), NoMemory>
-    ensures { OnOk result ((j : ℕ) (x : List ℕ) → list_any (is_key j x) keys.new.items ≡ (list_any (is_key j x) keys.old.items || is_key j x key.entry)) }
-{
-    Ok(keys.push(key)?)
-}
-
 fn add_keys<'a>(
     keys: &mut Vec<Key<'a>>,
     i: usize,
@@ -25,7 +19,7 @@ fn add_keys<'a>(
 {
     for parameter in parameters {
         let name = parameter.name.bytes();
-        add_key(keys, Key { instance: i, name })?;
+        keys.push(Key { instance: i, name })?;
     }
     Ok(())
 }

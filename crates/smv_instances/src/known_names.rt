@@ -151,17 +151,6 @@ pub fn names_in_all<'a>(table: &[Instance<'a>]) -> usize
     count
 }
 
-// The number of names of a module that have rows, saturated at `usize::MAX`.
-fn stored_names_in(module: &Module) -> usize
-    ensures { result ≡ min (stored_names_of (plain_module «module».now)) (2 ^ 64 - 1) }
-{
-    if is_small(module) {
-        0
-    } else {
-        names_in(module)
-    }
-}
-
 // The number of names that have rows, saturated at `usize::MAX`.
 #[tactic(auto, using(crate::proofs::TableLemmas::stored_names_on))]
 fn stored_names_in_all<'a>(table: &[Instance<'a>]) -> usize
@@ -169,7 +158,9 @@ fn stored_names_in_all<'a>(table: &[Instance<'a>]) -> usize
 {
     let mut count: usize = 0;
     for part in table {
-        count = count.saturating_add(stored_names_in(part.module));
+        if !is_small(part.module) {
+            count = count.saturating_add(names_in(part.module));
+        }
     }
     count
 }

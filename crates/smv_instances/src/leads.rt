@@ -34,13 +34,6 @@ pub enum Walk<'a> {
 /// The leads of aliases, by instance and name.
 pub type Leads<'a> = InstanceRows<'a, Lead<'a>>;
 
-fn one_deep<'a>(target: Target<'a>) -> Lead<'a>
-    ensures depth { result.depth ≡ 1 }
-    ensures target { result.target ≡ target.entry }
-{
-    Lead { depth: 1, target }
-}
-
 /// Returns the lead of a name in instance i, or None where the name is an alias without a stored lead.
 ///
 /// `known` is the meaning of the name in its own instance.
@@ -57,13 +50,28 @@ pub fn lead_of<'a>(
 {
     match known {
         Known::Alias(_, _) => row_value_in(leads, i, x),
-        Known::Body(j, e) => Some(one_deep(Target::Body(i, x, j, e))),
-        Known::Variable(kind, d) => Some(one_deep(Target::Variable(i, x, kind, d))),
+        Known::Body(j, e) => Some(Lead {
+            depth: 1,
+            target: Target::Body(i, x, j, e),
+        }),
+        Known::Variable(kind, d) => Some(Lead {
+            depth: 1,
+            target: Target::Variable(i, x, kind, d),
+        }),
         Known::Instance => match parts.child(i, x) {
-            None => Some(one_deep(Target::Missing)),
-            Some(c) => Some(one_deep(Target::Instance(c))),
+            None => Some(Lead {
+                depth: 1,
+                target: Target::Missing,
+            }),
+            Some(c) => Some(Lead {
+                depth: 1,
+                target: Target::Instance(c),
+            }),
         },
-        Known::Nothing => Some(one_deep(Target::Missing)),
+        Known::Nothing => Some(Lead {
+            depth: 1,
+            target: Target::Missing,
+        }),
     }
 }
 

@@ -2,7 +2,7 @@
 ghost use Rattle.std.specs.Prelude.{◌≡◌, ◌<◌, length, map, IfOk, IfSome};
 ghost use Rattle.smv_text.specs.View.{plain_module};
 ghost use Rattle.smv_meaning.specs.Instances.{module_named};
-ghost use Rattle.smv_instances.specs.NameMap.{module_at, FindsPlaces};
+ghost use Rattle.smv_instances.specs.NameMap.{module_at};
 ghost use Rattle.smv_instances.specs.View.{module_or_none};
 
 use name_maps::{NameRows, add_row, no_rows, row_value};
@@ -44,7 +44,13 @@ impl<'a> ModuleTable<'a> {
     pub fn of(alloc: Global, modules: &'a Modules) -> Result<ModuleTable<'a>, NoMemory>
         ensures { IfOk result (λ t. t ≡ modules.now) }
     {
-        let places = places_of(alloc, modules)?;
+        let mut places = no_rows(alloc, modules.len())?;
+        let mut k = modules.len();
+        // From the last to the first, so that the first module with a name counts.
+        while k > 0 {
+            k -= 1;
+            add_row(&mut places, modules.at(k).name.bytes(), k)?;
+        }
         Ok(ModuleTable {
             list: modules,
             places,
@@ -95,17 +101,4 @@ fn place_among(modules: &Modules, name: &[u8]) -> Option<usize>
         }
     }
     None
-}
-
-// Iterates from the last to the first, so that the first module with a name counts.
-fn places_of<'a>(alloc: Global, modules: &'a Modules) -> Result<NameRows<'a, usize>, NoMemory>
-    ensures { IfOk result (λ m. FindsPlaces modules.now modules.now m) }
-{
-    let mut places = no_rows(alloc, modules.len())?;
-    let mut k = modules.len();
-    while k > 0 {
-        k -= 1;
-        add_row(&mut places, modules.at(k).name.bytes(), k)?;
-    }
-    Ok(places)
 }

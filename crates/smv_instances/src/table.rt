@@ -9,7 +9,7 @@ ghost use Rattle.smv_instances.specs.View.{instance_plain, local_plain, found_pl
 
 use crate::aliases::leads_of;
 use crate::instances::{Instance, instances};
-use crate::leads::{Lead, Leads, Walk, lead_of, path_walk};
+use crate::leads::{Lead, Leads, Walk, path_walk};
 use crate::names::{Known, Target};
 use crate::parts::Parts;
 use name_maps::row_value_in;
@@ -45,16 +45,6 @@ impl<'a> Model for Table<'a> {
     ghost invariant = { λ t. Right (map instance_plain t.parts) t.leads × IsClosed (map instance_plain t.parts) t.leads };
 }
 
-// Whether both paths are the same single name.
-fn is_same_single(one: &Path, other: &Path) -> bool
-    ensures { result ≡ are_one_name one.now other.now }
-{
-    if one.from_self || other.from_self || one.names.len() != 1 || other.names.len() != 1 {
-        return false;
-    }
-    is_same(one.names.at(0).bytes(), other.names.at(0).bytes())
-}
-
 /// Returns whether both paths are the same single name.
 ///
 /// If so, they have the same target in each instance.
@@ -62,7 +52,10 @@ pub fn is_same_name(one: &Path, other: &Path) -> bool
     ensures exact { result ≡ are_one_name one.now other.now }
     ensures leads { result ≡ true → (t : List Specified) (i : ℕ) → found_in t i one.now ≡ found_in t i other.now }
 {
-    is_same_single(one, other)
+    if one.from_self || other.from_self || one.names.len() != 1 || other.names.len() != 1 {
+        return false;
+    }
+    is_same(one.names.at(0).bytes(), other.names.at(0).bytes())
 }
 
 // The target of a lead, or a cycle where the lead needs more steps than the instances allow.
@@ -73,19 +66,6 @@ fn reached<'a>(parts: &Parts<'a>, lead: Lead<'a>) -> Target<'a>
         Target::Cyclic
     } else {
         lead.target
-    }
-}
-
-fn instance_in<'a>(target: Target<'a>) -> Option<usize>
-    ensures { (t : List Specified) → result ≡ instance_within (found_plain t target.entry) }
-{
-    match target {
-        Target::Instance(c) => Some(c),
-        Target::Variable(_, _, _, _) => None,
-        Target::Body(_, _, _, _) => None,
-        Target::Symbol(_) => None,
-        Target::Cyclic => None,
-        Target::Missing => None,
     }
 }
 
@@ -153,14 +133,12 @@ impl<'a> Table<'a> {
         self.parts.has_symbol(x)
     }
 
-    /// Returns the target of an alias, without a walk along its path.
-    ///
-    /// `known` is the meaning of the name in its own instance.
-    pub fn target_of_alias(&self, i: usize, x: &'a [u8], known: Known<'a>) -> Target<'a>
-        requires known { local_plain known ≡ local (map instance_plain self.now) i x.now }
+    /// Returns the target of a name that is an alias, without a walk along its path.
+    pub fn target_of_alias(&self, i: usize, x: &[u8]) -> Target<'a>
+        requires alias { is_alias (local (map instance_plain self.now) i x.now) ≡ true }
         ensures { found_plain (map instance_plain self.now) result ≡ look (map instance_plain self.now) (steps_of (map instance_plain self.now)) i x.now }
     {
-        match lead_of(&self.parts, &self.leads, i, x, known) {
+        match row_value_in(&self.leads, i, x) {
             Some(lead) => reached(&self.parts, lead),
             None => Target::Cyclic,
         }
@@ -172,7 +150,7 @@ impl<'a> Table<'a> {
         ensures { found_plain (map instance_plain self.now) result ≡ single (map instance_plain self.now) (look (map instance_plain self.now) (steps_of (map instance_plain self.now))) i x.now (local_plain known.entry) }
     {
         match known {
-            Known::Alias(_, _) => self.target_of_alias(i, x, known),
+            Known::Alias(_, _) => self.target_of_alias(i, x),
             Known::Body(j, e) => Target::Body(i, x, j, e),
             Known::Variable(kind, d) => Target::Variable(i, x, kind, d),
             Known::Instance => match self.child(i, x) {
@@ -201,17 +179,6 @@ impl<'a> Table<'a> {
         }
     }
 
-    // The target of a name that is an alias. The name need not live as long as the model.
-    fn alias_target(&self, i: usize, x: &[u8]) -> Target<'a>
-        requires alias { is_alias (local (map instance_plain self.now) i x.now) ≡ true }
-        ensures { found_plain (map instance_plain self.now) result ≡ look (map instance_plain self.now) (steps_of (map instance_plain self.now)) i x.now }
-    {
-        match row_value_in(&self.leads, i, x) {
-            Some(lead) => reached(&self.parts, lead),
-            None => Target::Cyclic,
-        }
-    }
-
     /// Returns the instance to which a name leads, or None where it leads to no instance.
     ///
     /// `known` is the meaning of the name in its own instance.
@@ -220,7 +187,14 @@ impl<'a> Table<'a> {
         ensures { result ≡ instance_within (look (map instance_plain self.now) (steps_of (map instance_plain self.now)) i x.now) }
     {
         match known {
-            Known::Alias(_, _) => instance_in(self.alias_target(i, x)),
+            Known::Alias(_, _) => match self.target_of_alias(i, x) {
+                Target::Instance(c) => Some(c),
+                Target::Variable(_, _, _, _) => None,
+                Target::Body(_, _, _, _) => None,
+                Target::Symbol(_) => None,
+                Target::Cyclic => None,
+                Target::Missing => None,
+            },
             Known::Body(_, _) => None,
             Known::Variable(_, _) => None,
             Known::Instance => self.child(i, x),

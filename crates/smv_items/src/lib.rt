@@ -9,7 +9,6 @@ mod symbols;
 pub use items::{FlatItem, ItemKind};
 pub use numbers::{
     Bodies, ItemNumbers, Leaf, PathNumbers, VariableNumber, Variables, leaf_of, numbers_of,
-    paths_of,
 };
 pub use origins::{Content, Origin, Origins, dotted_path, origins_in, own_count};
 pub use symbols::{Symbols, symbols_in};

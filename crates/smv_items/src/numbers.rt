@@ -9,6 +9,7 @@ ghost use Rattle.smv_instances.specs.View.{instance_plain, found_plain};
 ghost use Rattle.smv_items.specs.FlatItems.{is_variable_as, path_of, leaf_found, item_leaf, symbol_leaf, origins_of, symbols_of};
 ghost use Rattle.smv_items.specs.FlatOrigins.{origin_plain, content_plain, input_count, leaf_plain, number_kept, number_as, path_number, AreInstanceNumbers, AreNumbers, IsNoted, ArePathsNoted, IsItemNoted};
 
+use crate::items::FlatItem;
 use crate::origins::{Content, Origin, dotted_path};
 use crate::symbols::Symbols;
 use name_maps::{
@@ -18,7 +19,7 @@ use name_maps::{
 use smv_instances::{Table, Target};
 use smv_text::VarKind;
 use std::alloc::Global;
-use text_core::{Name, NoMemory};
+use text_core::NoMemory;
 
 /// The numbers of bodies, by instance and name.
 pub type Bodies<'a> = InstanceRows<'a, usize>;
@@ -222,34 +223,18 @@ fn no_numbers<'a, 'n>(
     })
 }
 
-/// Returns the dotted paths of the items, in order.
-pub fn paths_of<'a>(
-    alloc: Global,
-    table: &Table<'a>,
-    origins: &[Origin<'a>],
-) -> Result<Vec<Name>, NoMemory>
-    ensures { IfOk result (λ ps. ps.items ≡ map (path_of (map instance_plain table.now)) (map origin_plain origins.now)) }
-{
-    let mut paths = Vec::new(alloc);
-    for origin in origins {
-        let path = dotted_path(alloc, table, origin.instance as usize, origin.name)?;
-        paths.push(path)?;
-    }
-    Ok(paths)
-}
-
-/// Returns the numbers of all items, given their dotted paths.
+/// Returns the numbers of all items, given their origins.
 pub fn numbers_of<'a, 'n>(
     alloc: Global,
     origins: &[Origin<'a>],
-    paths: &'n [Name],
+    items: &'n [FlatItem],
 ) -> Result<ItemNumbers<'a, 'n>, NoMemory>
-    requires { length paths.now ≡ length origins.now }
-    ensures { (t : List Specified) → paths.now ≡ map (path_of t) (map origin_plain origins.now) → IfOk result (λ ns. AreNumbers t (map origin_plain origins.now) ns) }
+    requires { length items.now ≡ length origins.now }
+    ensures { (t : List Specified) → map (λ m. m.name) items.now ≡ map (path_of t) (map origin_plain origins.now) → IfOk result (λ ns. AreNumbers t (map origin_plain origins.now) ns) }
 {
     let mut numbers = no_numbers(alloc, origins)?;
     for k in 0..origins.len() {
-        note_item(&mut numbers, &origins[k], paths[k].bytes(), k)?;
+        note_item(&mut numbers, &origins[k], items[k].name.bytes(), k)?;
     }
     Ok(numbers)
 }

@@ -18,3 +18,4 @@ pub mod CheckedLaws
 pub mod SafeExpressions
 pub mod ValueLaws
 pub mod VerdictLaws
+pub mod Positions

@@ -1,5 +1,5 @@
 -- How the entries are filled: what is put into them is right, and at the end they have all.
-use Rattle.std.proofs.Common.{◌≡◌, ℕ, Bool, true, false, ◌&&◌, ◌||◌, ◌==◌, if◌then◌else◌, List, [], ◌∷◌, ◌++◌, map, Option, Some, None, is_some, bytes_eq, flat_map, refl, sym, ap, ◌∙◌}
+use Rattle.std.proofs.Common.{◌≡◌, ℕ, Bool, true, false, ◌&&◌, ◌||◌, ◌==◌, if◌then◌else◌, List, [], ◌∷◌, ◌++◌, map, Option, Some, None, is_some, bytes_eq, flat_map, refl, sym, ap, ◌∙◌, subst}
 use Rattle.std.specs.List.{list_all, list_any, position}
 use Rattle.std.proofs.lemmas.Bool.{eqb-true, eq-eqb}
 use Rattle.std.proofs.lemmas.Slice.Eq.{bytes_eq-Decides}
@@ -17,9 +17,9 @@ use Rattle.smv_meaning.specs.Phases.{Body, body_same, body_here, from_instance, 
 use Rattle.smv_meaning.specs.Settled.{Acyclic, has_body, types_in, NamesSettle, TypesSettle}
 use Rattle.smv_meaning.specs.Bodies.{instance_within, IsBodyOrder}
 use Rattle.smv_meaning.specs.Orders.{numbered, is_listed, SameOn, TypesHangOnPaths, OrderIsComplete}
-use Rattle.smv_model_types.specs.Entries.{Entries, nameless, named_instance, or_unnamed, variable_or, entry_or, alias_or, entries_step, entries_walk, entries_single, entries_through, entries_names, HasEach, put_for, variable_put, or_else, Becomes, LeadsAs, IsPut, IsReady, Right, Has}
+use Rattle.smv_model_types.specs.Entries.{Entries, nameless, or_unnamed, variable_or, found_or, entry_or, entries_step, entries_walk, entries_single, entries_through, entries_names, HasEach, alias_put, put_for, variable_put, or_else, Becomes, IsPut, Right, IsEntered, Has}
 use Rattle.smv_meaning.specs.laws.Booleans.{absurd_bool}
-use Rattle.smv_instances.proofs.LeadLemmas.{one_onward}
+use Rattle.smv_model_types.proofs.Targets.{name_looked}
 
 -- ---- tests
 
@@ -51,30 +51,38 @@ Settled t = (i : ℕ) (x : List ℕ) → looked t i x ≡ landed t (looked t) i 
 
 -- ---- entries that have what a path goes through have the path
 
-variable_there : (t : List Instance) (i : ℕ) (x : List ℕ) (kind : VarKind) (d : PlainDomain) (m : Found) (o : Option Named) → m ≡ variable_at (dotted_at t i x) kind d → ((n : Named) → o ≡ Some n → n ≡ meaning t m)
-    → variable_or kind d o ≡ meaning t m
-variable_there t i x kind (members ms) m (Some n) e r = r n refl
-variable_there t i x kind (members ms) m None e r = sym (ap (meaning t) e)
-variable_there t i x kind boolean m o e r = sym (ap (meaning t) e)
-variable_there t i x kind (between low high) m o e r = sym (ap (meaning t) e)
-variable_there t i x kind (bits n) m o e r = sym (ap (meaning t) e)
-variable_there t i x kind (instance y es) m o e r = sym (ap (meaning t) e)
+variable_there : (t : List Instance) (y : List ℕ) (kind : VarKind) (d : PlainDomain) (o : Option Named) → ((n : Named) → o ≡ Some n → n ≡ meaning t (variable_at y kind d)) → variable_or kind d o ≡ meaning t (variable_at y kind d)
+variable_there t y kind (members ms) (Some n) r = r n refl
+variable_there t y kind (members ms) None r = refl
+variable_there t y kind boolean o r = refl
+variable_there t y kind (between low high) o r = refl
+variable_there t y kind (bits n) o r = refl
+variable_there t y kind (instance z es) o r = refl
 
 body_there : (t : List Instance) (m : Found) (o : Option Named) → is_some o ≡ true → ((n : Named) → o ≡ Some n → n ≡ meaning t m) → or_unnamed o ≡ meaning t m
 body_there t m (Some n) h r = r n refl
 body_there t m None h r = absurd_bool h
 
-entry_at : (t : List Instance) (i : ℕ) (x : List ℕ) (l : Local) (m : Found) (o : Option Named) → m ≡ landed t (looked t) i x l → instance_within m ≡ None → (has_body l ≡ true → is_some o ≡ true)
-    → ((n : Named) → o ≡ Some n → n ≡ meaning t m) → entry_or l o ≡ meaning t m
-entry_at t i x (alias j path) m o e w f r = body_there t m o (f refl) r
-entry_at t i x (body_of j b) m o e w f r = body_there t m o (f refl) r
-entry_at t i x (variable_of kind d) m o e w f r = variable_there t i x kind d m o e r
-entry_at t i x inner m o e w f r = by (position (is_child i x) t) e
+-- an alias is what it leads to
+found_right : (t : List Instance) (entries : Entries) → Right t entries → (i : ℕ) (x : List ℕ) (m : Found) → looked t i x ≡ m → IsEntered entries m → found_or entries (entries i x) m ≡ meaning t m
+found_right t entries r i x (variable_at y kind d) e h = variable_there t y kind d (entries i x) (λ n s. r i x n s ∙ ap (meaning t) e)
+found_right t entries r i x (body_at j y k b) e h = body_there t (body_at j y k b) (entries j y) h (λ n s. r j y n s ∙ ap (meaning t) (name_looked t i x j y k b e))
+found_right t entries r i x (instance_at c) e h = refl
+found_right t entries r i x (symbol_of y) e h = refl
+found_right t entries r i x cyclic e h = refl
+found_right t entries r i x none e h = refl
+
+entry_at : (t : List Instance) (entries : Entries) → Right t entries → (i : ℕ) (x : List ℕ) (l : Local) → looked t i x ≡ landed t (looked t) i x l → instance_within (looked t i x) ≡ None → IsEntered entries (looked t i x)
+    → entry_or t entries i x l ≡ meaning t (looked t i x)
+entry_at t entries r i x (alias j path) e w h = found_right t entries r i x (looked t i x) refl h
+entry_at t entries r i x (body_of j b) e w h = body_there t (looked t i x) (entries i x) (subst (IsEntered entries) e h) (r i x)
+entry_at t entries r i x (variable_of kind d) e w h = variable_there t (dotted_at t i x) kind d (entries i x) (λ n s. r i x n s ∙ ap (meaning t) e) ∙ sym (ap (meaning t) e)
+entry_at t entries r i x inner e w h = by (position (is_child i x) t) e
   where
-    by : (c : Option ℕ) → m ≡ at_child c → unnamed ≡ meaning t m
+    by : (c : Option ℕ) → looked t i x ≡ at_child c → unnamed ≡ meaning t (looked t i x)
     by None s = sym (ap (meaning t) s)
-    by (Some c) s = let g : instance_within m ≡ Some c = ap instance_within s in cc
-entry_at t i x nothing m o e w f r = sym (ap (meaning t) e)
+    by (Some c) s = let g : instance_within (looked t i x) ≡ Some c = ap instance_within s in cc
+entry_at t entries r i x nothing e w h = sym (ap (meaning t) e)
 
 ends_as : (t : List Instance) (b : Bool) (n : Named) (m : Found) → n ≡ meaning t m → (if b then n else unnamed) ≡ meaning t (if b then m else none)
 ends_as t true n m e = e
@@ -84,17 +92,73 @@ ends_cyclic : (b : Bool) (n : Named) → n ≡ unnamed → (if b then n else unn
 ends_cyclic true n e = e
 ends_cyclic false n e = refl
 
-here_listed : (ks : List Body) (i : ℕ) (x : List ℕ) (l : Local) → list_all (is_listed ks) (body_here i x l) ≡ true → has_body l ≡ true → is_listed ks (i, x) ≡ true
-here_listed ks i x (alias j path) h f = (both_true (is_listed ks (i, x)) true h).0
-here_listed ks i x (body_of j e) h f = (both_true (is_listed ks (i, x)) true h).0
-here_listed ks i x (variable_of kind d) h f = absurd_bool f
-here_listed ks i x inner h f = absurd_bool f
-here_listed ks i x nothing h f = absurd_bool f
-
 -- entries that are right and have those of a list
 pub record Holds (t : List Instance) (entries : Entries) (ks : List Body) : Type 0 where
   pub right : Right t entries
   pub has : Has t entries ks
+
+-- ---- what listed names and paths lead to has entries
+
+child_entered : (entries : Entries) (c : Option ℕ) → IsEntered entries (at_child c)
+child_entered entries None = tt
+child_entered entries (Some c) = tt
+
+pick_entered : (entries : Entries) (b : Bool) (m : Found) → IsEntered entries m → IsEntered entries (if b then m else none)
+pick_entered entries true m h = h
+pick_entered entries false m h = tt
+
+symbol_entered : (entries : Entries) (b : Bool) (x : List ℕ) → IsEntered entries (if b then symbol_of x else none)
+symbol_entered entries true x = tt
+symbol_entered entries false x = tt
+
+name_entered : (t : List Instance) (entries : Entries) (ks : List Body) → Has t entries ks → (i : ℕ) (x : List ℕ) (l : Local) → looked t i x ≡ landed t (looked t) i x l → list_all (is_listed ks) (body_here i x l) ≡ true → IsEntered entries (looked t i x)
+name_entered t entries ks has i x (alias j path) e h = has (i, x) (both_true (is_listed ks (i, x)) true h).0
+name_entered t entries ks has i x (body_of j b) e h = has (i, x) (both_true (is_listed ks (i, x)) true h).0
+name_entered t entries ks has i x (variable_of kind d) e h = subst (IsEntered entries) (sym e) tt
+name_entered t entries ks has i x inner e h = subst (IsEntered entries) (sym e) (child_entered entries (position (is_child i x) t))
+name_entered t entries ks has i x nothing e h = subst (IsEntered entries) (sym e) tt
+
+onward_entered : (t : List Instance) (entries : Entries) (ks : List Body) (m : Found) (b : Bool) (rest : List (List ℕ)) → IsEntered entries m
+    → ((c : ℕ) → list_all (is_listed ks) (path_bodies t (looked t) c rest) ≡ true → IsEntered entries (walk (looked t) c rest))
+    → list_all (is_listed ks) (from_instance m (λ c. path_bodies t (looked t) c rest)) ≡ true → IsEntered entries (onward m b (λ c. walk (looked t) c rest))
+onward_entered t entries ks (instance_at c) b rest e ih h = ih c h
+onward_entered t entries ks (variable_at x kind d) b rest e ih h = pick_entered entries b (variable_at x kind d) e
+onward_entered t entries ks (body_at i x j a) b rest e ih h = pick_entered entries b (body_at i x j a) e
+onward_entered t entries ks (symbol_of x) b rest e ih h = pick_entered entries b (symbol_of x) e
+onward_entered t entries ks cyclic b rest e ih h = tt
+onward_entered t entries ks none b rest e ih h = pick_entered entries b none e
+
+walk_entered : (t : List Instance) (entries : Entries) (ks : List Body) → Settled t → Has t entries ks → (names : List (List ℕ)) (i : ℕ) → list_all (is_listed ks) (path_bodies t (looked t) i names) ≡ true → IsEntered entries (walk (looked t) i names)
+walk_entered t entries ks s has [] i h = tt
+walk_entered t entries ks s has (x ∷ rest) i h =
+    let m = looked t i x in
+    let more : List Body = from_instance m (λ c. path_bodies t (looked t) c rest) in
+    let b = both_true (list_all (is_listed ks) (body_here i x (local t i x))) (list_all (is_listed ks) more) (sym (list_all-append (is_listed ks) (body_here i x (local t i x)) more) ∙ h) in
+    onward_entered t entries ks m (is_end rest) rest (name_entered t entries ks has i x (local t i x) (s i x) b.0) (λ c k. walk_entered t entries ks s has rest c k) b.1
+
+single_entered : (t : List Instance) (entries : Entries) (i : ℕ) (x : List ℕ) (l : Local) → IsEntered entries (walk (looked t) i (x ∷ [])) → IsEntered entries (single t (looked t) i x l)
+single_entered t entries i x (alias j path) e = e
+single_entered t entries i x (body_of j b) e = e
+single_entered t entries i x (variable_of kind d) e = e
+single_entered t entries i x inner e = e
+single_entered t entries i x nothing e = symbol_entered entries (has_symbol t x) x
+
+through_entered : (t : List Instance) (entries : Entries) (i : ℕ) (names : List (List ℕ)) → IsEntered entries (walk (looked t) i names) → IsEntered entries (through t (looked t) i names)
+through_entered t entries i [] e = e
+through_entered t entries i (x ∷ []) e = single_entered t entries i x (local t i x) e
+through_entered t entries i (x ∷ y ∷ ys) e = e
+
+path_entered : (t : List Instance) (entries : Entries) (ks : List Body) → Settled t → Has t entries ks → (i : ℕ) (path : Path) → list_all (is_listed ks) (path_bodies t (looked t) i path.names) ≡ true → IsEntered entries (found_in t i path)
+path_entered t entries ks s has i path h = by path.from_self
+  where
+    e : IsEntered entries (walk (looked t) i path.names)
+    e = walk_entered t entries ks s has path.names i h
+
+    by : (b : Bool) → IsEntered entries (if b then walk (looked t) i path.names else through t (looked t) i path.names)
+    by true = e
+    by false = through_entered t entries i path.names e
+
+-- ---- what they are
 
 step_right : (t : List Instance) (entries : Entries) (at_end : Bool) (n : Named) (m : Found) (rest : List (List ℕ)) (ks : List Body) → (instance_within m ≡ None → n ≡ meaning t m)
     → ((c : ℕ) → list_all (is_listed ks) (path_bodies t (looked t) c rest) ≡ true → entries_walk t entries c rest ≡ meaning t (walk (looked t) c rest))
@@ -114,41 +178,25 @@ walk_right t entries ks s r (x ∷ rest) i h =
     let m = looked t i x in
     let more : List Body = from_instance m (λ c. path_bodies t (looked t) c rest) in
     let b = both_true (list_all (is_listed ks) (body_here i x (local t i x))) (list_all (is_listed ks) more) (sym (list_all-append (is_listed ks) (body_here i x (local t i x)) more) ∙ h) in
-    step_right t entries (is_end rest) (entry_or (local t i x) (entries i x)) m rest ks
-    (λ w. entry_at t i x (local t i x) m (entries i x) (s i x) w (λ f. r.has (i, x) (here_listed ks i x (local t i x) b.0 f) f) (r.right i x))
+    step_right t entries (is_end rest) (entry_or t entries i x (local t i x)) m rest ks
+    (λ w. entry_at t entries r.right i x (local t i x) (s i x) w (name_entered t entries ks r.has i x (local t i x) (s i x) b.0))
     (λ c k. walk_right t entries ks s r rest c k) b.1
 
 symbol_right : (t : List Instance) (b : Bool) (x : List ℕ) → named_found true nameless (if b then symbol_of x else none) ≡ meaning t (if b then symbol_of x else none)
 symbol_right t true x = refl
 symbol_right t false x = refl
 
-not_entered : (o : Option ℕ) → alias_or None o ≡ entries_step o true unnamed (λ c. named_instance)
-not_entered None = refl
-not_entered (Some c) = refl
+single_right : (t : List Instance) (entries : Entries) (i : ℕ) (x : List ℕ) (l : Local) → entries_walk t entries i (x ∷ []) ≡ meaning t (walk (looked t) i (x ∷ [])) → entries_single t entries i x l ≡ meaning t (single t (looked t) i x l)
+single_right t entries i x (alias j path) e = e
+single_right t entries i x (body_of j b) e = e
+single_right t entries i x (variable_of kind d) e = e
+single_right t entries i x inner e = e
+single_right t entries i x nothing e = symbol_right t (has_symbol t x) x
 
-alias_right : (t : List Instance) (entries : Entries) → Right t entries → (i : ℕ) (x : List ℕ) (j : ℕ) (path : Path) → alias j path ≡ local t i x → entries_walk t entries i (x ∷ []) ≡ meaning t (walk (looked t) i (x ∷ []))
-    → alias_or (entries i x) (instance_within (looked t i x)) ≡ meaning t (walk (looked t) i (x ∷ []))
-alias_right t entries r i x j path h e = by (entries i x) refl
-  where
-    by : (o : Option Named) → entries i x ≡ o → alias_or o (instance_within (looked t i x)) ≡ meaning t (walk (looked t) i (x ∷ []))
-    by (Some n) s = r i x n s ∙ ap (meaning t) (sym (one_onward (looked t i x)))
-    by None s =
-        not_entered (instance_within (looked t i x))
-        ∙ ap (λ n. entries_step (instance_within (looked t i x)) true n (λ c. named_instance)) (ap (λ l. entry_or l None) h ∙ ap (entry_or (local t i x)) (sym s)) ∙ e
-
-single_right : (t : List Instance) (entries : Entries) → Right t entries → (i : ℕ) (x : List ℕ) (l : Local) → l ≡ local t i x → entries_walk t entries i (x ∷ []) ≡ meaning t (walk (looked t) i (x ∷ []))
-    → entries_single t entries i x l ≡ meaning t (single t (looked t) i x l)
-single_right t entries r i x (alias j path) h e = alias_right t entries r i x j path h e
-single_right t entries r i x (body_of j b) h e = e
-single_right t entries r i x (variable_of kind d) h e = e
-single_right t entries r i x inner h e = e
-single_right t entries r i x nothing h e = symbol_right t (has_symbol t x) x
-
-through_right : (t : List Instance) (entries : Entries) → Right t entries → (i : ℕ) (names : List (List ℕ)) → entries_walk t entries i names ≡ meaning t (walk (looked t) i names)
-    → entries_through t entries i names ≡ meaning t (through t (looked t) i names)
-through_right t entries r i [] e = e
-through_right t entries r i (x ∷ []) e = single_right t entries r i x (local t i x) refl e
-through_right t entries r i (x ∷ y ∷ ys) e = e
+through_right : (t : List Instance) (entries : Entries) (i : ℕ) (names : List (List ℕ)) → entries_walk t entries i names ≡ meaning t (walk (looked t) i names) → entries_through t entries i names ≡ meaning t (through t (looked t) i names)
+through_right t entries i [] e = e
+through_right t entries i (x ∷ []) e = single_right t entries i x (local t i x) e
+through_right t entries i (x ∷ y ∷ ys) e = e
 
 either_right : (t : List Instance) (b : Bool) (n m : Named) (f g : Found) → n ≡ meaning t f → m ≡ meaning t g → (if b then n else m) ≡ meaning t (if b then f else g)
 either_right t true n m f g p q = p
@@ -159,7 +207,7 @@ names_right : (t : List Instance) (entries : Entries) (ks : List Body) → Settl
 names_right t entries ks s r i path h =
     let e = walk_right t entries ks s r path.names i h in
     either_right t path.from_self (entries_walk t entries i path.names) (entries_through t entries i path.names) (walk (looked t) i path.names) (through t (looked t) i path.names) e
-    (through_right t entries r.right i path.names e)
+    (through_right t entries i path.names e)
 
 -- ---- bodies
 
@@ -194,33 +242,27 @@ record Laws (t : List Instance) : Type 0 where
 laws : (t : List Instance) → Acyclic t → NamesSettle → TypesSettle → TypesHangOnPaths → Laws t
 laws t a n y h = record { settled = (n t a).1; types = y t a true; hang = h }
 
+alias_put_is : (m : Found) (p n : Named) → alias_put m p ≡ Some n → p ≡ n
+alias_put_is (variable_at y kind (members ms)) p n e = cc
+alias_put_is (variable_at y kind boolean) p n e = cc
+alias_put_is (variable_at y kind (between low high)) p n e = cc
+alias_put_is (variable_at y kind (bits m)) p n e = cc
+alias_put_is (variable_at y kind (instance m es)) p n e = cc
+alias_put_is (body_at i x j b) p n e = cc
+alias_put_is (instance_at c) p n e = cc
+alias_put_is (symbol_of x) p n e = cc
+alias_put_is cyclic p n e = cc
+alias_put_is none p n e = cc
+
 put_right : (t : List Instance) (entries : Entries) (ks : List Body) → Laws t → Holds t entries ks → (i : ℕ) (x : List ℕ) (l : Local) → list_all (is_listed ks) (referred t (looked t) l) ≡ true
-    → (n : Named) → put_for t entries l ≡ Some n → n ≡ meaning t (landed t (looked t) i x l)
-put_right t entries ks w r i x (alias j path) h n e = let f : entries_names t entries j path ≡ n = cc in sym f ∙ names_right t entries ks w.settled r j path h
+    → (n : Named) → put_for t entries i x l ≡ Some n → n ≡ meaning t (landed t (looked t) i x l)
+put_right t entries ks w r i x (alias j path) h n e = sym (alias_put_is (looked t i x) (entries_names t entries j path) n e) ∙ names_right t entries ks w.settled r j path h
 put_right t entries ks w r i x (body_of j b) h n e =
     let f : named_found true (entries_names t entries) (body_at 0 [] j b) ≡ n = cc in
     sym f ∙ bodies_same w.hang t entries i x j b (paths_right t entries ks w.settled w.types r j (paths_of b []) h)
 put_right t entries ks w r i x (variable_of kind d) h n e = cc
 put_right t entries ks w r i x inner h n e = cc
 put_right t entries ks w r i x nothing h n e = cc
-
--- ready for an actual that is a path
-pub ready : (t : List Instance) (entries : Entries) (ks : List Body) → Acyclic t → NamesSettle → Holds t entries ks → (k : Body) → list_all (is_listed ks) (refers t k) ≡ true → IsReady t k entries
-ready t entries ks a names r k before = by (local t k.0 k.1) before ((names t a).1 k.0 k.1)
-  where
-    by : (l : Local) → list_all (is_listed ks) (referred t (looked t) l) ≡ true → looked t k.0 k.1 ≡ landed t (looked t) k.0 k.1 l → LeadsAs t entries k.0 k.1 l
-    by (alias j path) h s = names_right t entries ks (names t a).1 r j path h ∙ sym (ap (meaning t) s)
-    by (body_of j e) h s = tt
-    by (variable_of kind d) h s = tt
-    by inner h s = tt
-    by nothing h s = tt
-
-put_there : (t : List Instance) (entries : Entries) (l : Local) → has_body l ≡ true → is_some (put_for t entries l) ≡ true
-put_there t entries (alias j path) f = refl
-put_there t entries (body_of j e) f = refl
-put_there t entries (variable_of kind d) f = absurd_bool f
-put_there t entries inner f = absurd_bool f
-put_there t entries nothing f = absurd_bool f
 
 pub variable_right : (t : List Instance) (i : ℕ) (x : List ℕ) (l : Local) (n : Named) → variable_put l ≡ Some n → n ≡ meaning t (landed t (looked t) i x l)
 variable_right t i x (alias j path) n e = cc
@@ -259,15 +301,35 @@ last_true : (a : Bool) → (a || false) ≡ true → a ≡ true
 last_true true h = refl
 last_true false h = h
 
-has_becomes : (t : List Instance) (old new : Entries) (k : Body) (ks : List Body) (o : Option Named) → Becomes old k o new → Has t old ks → (has_body (local t k.0 k.1) ≡ true → is_some o ≡ true) → Has t new (ks ++ k ∷ [])
-has_becomes t old new k ks o b h put m l f = by (is_listed ks m) refl
+-- what has an entry still has one
+entered_stays : (old new : Entries) (k : Body) (o : Option Named) → Becomes old k o new → (m : Found) → IsEntered old m → IsEntered new m
+entered_stays old new k o b (body_at j y c e) h = ap is_some (b j y) ∙ some_stays (body_same k (j, y)) o (old j y) h
+entered_stays old new k o b (variable_at y kind d) h = tt
+entered_stays old new k o b (instance_at c) h = tt
+entered_stays old new k o b (symbol_of y) h = tt
+entered_stays old new k o b cyclic h = tt
+entered_stays old new k o b none h = tt
+
+-- what one more leads to has an entry
+put_entered : (t : List Instance) (old new : Entries) (ks : List Body) → Settled t → Has t old ks → (i : ℕ) (x : List ℕ) (l : Local) → list_all (is_listed ks) (referred t (looked t) l) ≡ true → Becomes old (i, x) (put_for t old i x l) new
+    → looked t i x ≡ landed t (looked t) i x l → IsEntered new (looked t i x)
+put_entered t old new ks s has i x (alias j path) h b e =
+    subst (IsEntered new) (sym e) (entered_stays old new (i, x) (put_for t old i x (alias j path)) b (found_in t j path) (path_entered t old ks s has j path h))
+put_entered t old new ks s has i x (body_of j a) h b e =
+    subst (IsEntered new) (sym e) (ap is_some (b i x) ∙ some_put (body_same (i, x) (i, x)) (put_for t old i x (body_of j a)) (old i x) (same_self (i, x) (i, x) refl) refl)
+put_entered t old new ks s has i x (variable_of kind d) h b e = subst (IsEntered new) (sym e) tt
+put_entered t old new ks s has i x inner h b e = subst (IsEntered new) (sym e) (child_entered new (position (is_child i x) t))
+put_entered t old new ks s has i x nothing h b e = subst (IsEntered new) (sym e) tt
+
+has_becomes : (t : List Instance) (old new : Entries) (k : Body) (ks : List Body) (o : Option Named) → Becomes old k o new → Has t old ks → IsEntered new (looked t k.0 k.1) → Has t new (ks ++ k ∷ [])
+has_becomes t old new k ks o b h put m l = by (is_listed ks m) refl
   where
-    by : (c : Bool) → is_listed ks m ≡ c → is_some (new m.0 m.1) ≡ true
-    by true s = ap is_some (b m.0 m.1) ∙ some_stays (body_same k m) o (old m.0 m.1) (h m s f)
+    by : (c : Bool) → is_listed ks m ≡ c → IsEntered new (looked t m.0 m.1)
+    by true s = entered_stays old new k o b (looked t m.0 m.1) (h m s)
     by false s =
         let g : (is_listed ks m || (body_same m k || false)) ≡ true = sym (list_any-append (body_same m) ks (k ∷ [])) ∙ l in
         let e : m ≡ k = same_is m k (last_true (body_same m k) (sym (ap (λ c. c || (body_same m k || false)) s) ∙ g)) in
-        ap is_some (b m.0 m.1) ∙ some_put (body_same k m) o (old m.0 m.1) (same_self k m e) (put (ap (λ (q : Body). has_body (local t q.0 q.1)) (sym e) ∙ f))
+        subst (λ (q : Body). IsEntered new (looked t q.0 q.1)) (sym e) put
 
 -- ---- their beginning, steps and end
 
@@ -275,15 +337,15 @@ pub none_right : (t : List Instance) (entries : Entries) → ((i : ℕ) (x : Lis
 none_right t entries h i x n e = let no : None ≡ Some n = sym (h i x) ∙ e in cc
 
 pub none_held : (t : List Instance) (entries : Entries) → Right t entries → Holds t entries []
-none_held t entries r = record { right = r; has = λ k h f. absurd_bool h }
+none_held t entries r = record { right = r; has = λ k h. absurd_bool h }
 
 pub one_more : (t : List Instance) (old new : Entries) (k : Body) (ks : List Body) → Acyclic t → NamesSettle → TypesSettle → TypesHangOnPaths → list_all (is_listed ks) (refers t k) ≡ true
     → IsPut t k old new → Holds t old ks → Holds t new (ks ++ k ∷ [])
 one_more t old new k ks a n y h before b r =
     let w = laws t a n y h in
     record {
-      right = right_becomes t old new k (put_for t old (local t k.0 k.1)) b r.right (λ m e. put_right t old ks w r k.0 k.1 (local t k.0 k.1) before m e ∙ sym (ap (meaning t) (w.settled k.0 k.1)));
-      has = has_becomes t old new k ks (put_for t old (local t k.0 k.1)) b r.has (put_there t old (local t k.0 k.1));
+      right = right_becomes t old new k (put_for t old k.0 k.1 (local t k.0 k.1)) b r.right (λ m e. put_right t old ks w r k.0 k.1 (local t k.0 k.1) before m e ∙ sym (ap (meaning t) (w.settled k.0 k.1)));
+      has = has_becomes t old new k ks (put_for t old k.0 k.1 (local t k.0 k.1)) b r.has (put_entered t old new ks w.settled r.has k.0 k.1 (local t k.0 k.1) before b (w.settled k.0 k.1));
     }
 
 pub variable_more : (t : List Instance) (old new : Entries) (i : ℕ) (x : List ℕ) → Acyclic t → NamesSettle → Becomes old (i, x) (variable_put (local t i x)) new → Right t old → Right t new

@@ -11,8 +11,8 @@ use Rattle.smv_meaning.specs.Settled.{NamesSettle, TypesSettle}
 use Rattle.smv_meaning.specs.Bodies.{Placed, placed_bodies, bodies_of, references_of, reference_graph, IsBodyOrder}
 use Rattle.smv_meaning.specs.Orders.{numbered, is_listed, ReferencesComeBefore, TypesHangOnPaths}
 use Rattle.smv_references.specs.View.{body_plain, key_of}
-use Rattle.smv_model_types.specs.Entries.{Entries, IsPut, IsReady}
-use Rattle.smv_model_types.proofs.Filling.{both_true, Holds, ready, one_more}
+use Rattle.smv_model_types.specs.Entries.{Entries, IsPut}
+use Rattle.smv_model_types.proofs.Filling.{both_true, Holds, one_more}
 
 each_low : (n : ℕ) (xs : List ℕ) (k d : ℕ) → list_all (λ x. nat_lt x n) xs ≡ true → k < length xs → slice_index_or xs k d < n
 each_low n [] k d h l = absurd (omega (arith, l))
@@ -37,15 +37,6 @@ key_is t fs n f e l is =
 
 parted : (order : List ℕ) (k n : ℕ) → k < length order → n ≡ slice_index_or order k n → order ≡ take k order ++ n ∷ drop (k + 1) order
 parted order k n l is = sym (take-append-drop k order) ∙ ap (λ xs. take k order ++ xs) (drop_more order k n l ∙ ap (λ m. m ∷ drop (k + 1) order) (sym is))
-
--- the entries with those before one of the order are ready for it
-pub next_ready : (t : List Instance) (fs : List Kept) (order : List ℕ) (k n : ℕ) (f : Kept) (old : Entries) → map body_plain fs ≡ placed_bodies t → IsBodyOrder t order → NamesSettle → ReferencesComeBefore
-    → k < length order → n ≡ slice_index_or order k n → f ≡ slice_index_or fs n f → Holds t old (map (numbered t) (take k order)) → IsReady t (key_of f) old
-next_ready t fs order k n f old e o names before l is fis h =
-    let low = number_low t fs order k n e o l is in
-    let key : numbered t n ≡ key_of f = key_is t fs n f e low fis in
-    let refs = before t (take k order) (drop (k + 1) order) n (subst (IsBodyOrder t) (parted order k n l is) o) in
-    ready t old (map (numbered t) (take k order)) o.acyclic names h (key_of f) (ap (λ q. list_all (is_listed (map (numbered t) (take k order))) (refers t q)) (sym key) ∙ refs)
 
 -- one more of the order is put into the entries
 pub next_put : (t : List Instance) (fs : List Kept) (order : List ℕ) (k n : ℕ) (f : Kept) (old new : Entries) → map body_plain fs ≡ placed_bodies t → IsBodyOrder t order → NamesSettle → TypesSettle → TypesHangOnPaths → ReferencesComeBefore

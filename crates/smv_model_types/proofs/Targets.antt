@@ -1,17 +1,19 @@
 -- What a path is to the types, by what it leads to.
-use Rattle.std.proofs.Common.{◌≡◌, ℕ, zero, suc, ◌<◌, true, List, [], ◌∷◌, Some, refl, sym, ap, ◌∙◌, subst, arith}
+use Rattle.std.proofs.Common.{◌≡◌, ℕ, zero, suc, ◌<◌, true, List, [], ◌∷◌, Option, Some, refl, sym, ap, ◌∙◌, subst, arith}
 use Rattle.std.specs.List.{slice_get}
 use Rattle.smv_text.specs.declared.tree.Path.{Path}
 use Rattle.smv_text.specs.declared.tree.VarKind.{VarKind}
 use Rattle.smv_text.specs.Tree.{Tree, PlainDomain, boolean, members, between, bits, instance}
 use Rattle.smv_meaning.specs.Instances.{Instance}
-use Rattle.smv_meaning.specs.Names.{Local, alias, body_of, variable_of, inner, nothing, local, Found, variable_at, body_at, path_in, onward, walk, look, landed, found_in, steps_of}
+use Rattle.smv_meaning.specs.Names.{Local, alias, body_of, variable_of, inner, nothing, local, Found, variable_at, body_at, instance_at, symbol_of, cyclic, none, path_in, onward, walk, look, landed, found_in, steps_of}
 use Rattle.smv_meaning.specs.Checks.{Named}
 use Rattle.smv_meaning.specs.Naming.{named_found, naming}
+use Rattle.smv_meaning.specs.Phases.{start_place}
 use Rattle.smv_meaning.specs.Settled.{types_in}
 use Rattle.smv_meaning.specs.Bodies.{instance_within}
+use Rattle.smv_instances.proofs.LeadLemmas.{one_onward}
 use Rattle.smv_laws.proofs.FoundLaws.{Closed, LocalGood, found_good}
-use Rattle.smv_model_types.specs.Entries.{Entries, nameless, or_unnamed, variable_or, entry_or, entries_step, entries_walk, entries_names, HasEach}
+use Rattle.smv_model_types.specs.Entries.{Entries, nameless, named_instance, or_unnamed, variable_or, found_or, entry_or, entries_step, entries_walk, entries_names, HasEach}
 
 naming_found : (found : ℕ → Path → Found) (i : ℕ) (path : Path) (m : Found) (w : Named) → found i path ≡ m → ((read : ℕ → Path → Named) → named_found true read m ≡ w) → (n : ℕ) → 0 < n → naming true found n i path ≡ w
 unfolding naming
@@ -55,24 +57,35 @@ look_body t j x k e l (suc n) p = ap (landed t (look t n) j x) l
 abbrev own_path : Path → List ℕ → Path
 own_path path x = record { from_self = true; names = x ∷ []; place = path.place }
 
+-- a path of one alias is what it leads to
+alias_step : (entries : Entries) (o : Option Named) (m : Found) → found_or entries o m ≡ entries_step (instance_within m) true (found_or entries o m) (λ c. named_instance)
+alias_step entries o (variable_at y kind d) = refl
+alias_step entries o (body_at j y k e) = refl
+alias_step entries o (instance_at c) = refl
+alias_step entries o (symbol_of y) = refl
+alias_step entries o cyclic = refl
+alias_step entries o none = refl
+
+pub alias_walked : (t : List Instance) (entries : Entries) (i : ℕ) (x : List ℕ) (j : ℕ) (path : Path) → alias j path ≡ local t i x → found_or entries (entries i x) (look t (steps_of t) i x) ≡ entries_walk t entries i (x ∷ [])
+alias_walked t entries i x j path e =
+    alias_step entries (entries i x) (look t (steps_of t) i x) ∙ ap (λ l. entries_step (instance_within (look t (steps_of t) i x)) true (entry_or t entries i x l) (λ c. entries_walk t entries c [])) e
+
+-- a definition or an actual is found where it stands
+pub name_looked : (t : List Instance) (i : ℕ) (x : List ℕ) (j : ℕ) (y : List ℕ) (k : ℕ) (e : Tree) → look t (steps_of t) i x ≡ body_at j y k e → look t (steps_of t) j y ≡ body_at j y k e
+name_looked t i x j y k e h =
+    let own : Path = record { from_self = true; names = x ∷ []; place = start_place } in
+    look_body t j y k e (body_local t i own j y k e (sym h ∙ sym (one_onward (look t (steps_of t) i x)))) (steps_of t) (omega arith)
+
 pub body_named : (t : List Instance) (entries : Entries) → HasEach t entries → (i : ℕ) (path : Path) (j : ℕ) (x : List ℕ) (k : ℕ) (e : Tree) → body_at j x k e ≡ found_in t i path → or_unnamed (entries j x) ≡ types_in true t i path
 body_named t entries h i path j x k e f =
     let l = body_local t i path j x k e f in
     let looked : look t (steps_of t) j x ≡ body_at j x k e = look_body t j x k e l (steps_of t) (omega arith) in
     let walked : entries_walk t entries j (x ∷ []) ≡ or_unnamed (entries j x) =
-    ap (λ m. entries_step (instance_within m) true (entry_or (local t j x) (entries j x)) (λ c. entries_walk t entries c [])) looked ∙ ap (λ w. entry_or w (entries j x)) l in
+    ap (λ m. entries_step (instance_within m) true (entry_or t entries j x (local t j x)) (λ c. entries_walk t entries c [])) looked ∙ ap (entry_or t entries j x) l in
     let found : found_in t j (own_path path x) ≡ body_at j x k e = ap (λ m. onward m true (λ c. walk (look t (steps_of t)) c [])) looked in
     sym walked ∙ h j (own_path path x) ∙ naming_same (found_in t) j i (own_path path x) path (found ∙ f) (steps_of t)
 
 -- ---- variables
-
--- what leads to a variable is what its declaration says, whatever else is read
-pub declared_so : (read : ℕ → Path → Named) (y : List ℕ) (kind : VarKind) (d : PlainDomain) (n : Named) → n ≡ named_found true read (variable_at y kind d) → variable_or kind d (Some n) ≡ n
-declared_so read y kind (members ms) n e = refl
-declared_so read y kind boolean n e = sym e
-declared_so read y kind (between low high) n e = sym e
-declared_so read y kind (bits m) n e = sym e
-declared_so read y kind (instance m es) n e = sym e
 
 pub variable_named_is : (t : List Instance) (entries : Entries) → HasEach t entries → (i : ℕ) (path : Path) (y : List ℕ) (kind : VarKind) (d : PlainDomain) → variable_at y kind d ≡ found_in t i path
     → variable_or kind d (Some (entries_names t entries i path)) ≡ types_in true t i path

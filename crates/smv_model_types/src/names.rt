@@ -1,13 +1,13 @@
 // The properties of paths, as far as the entries know the names on them.
 ghost use Rattle.std.specs.Prelude.{◌≡◌, ◌∷◌, [], true, map, Some};
 ghost use Rattle.smv_text.specs.View.{plain_domain};
-ghost use Rattle.smv_meaning.specs.Bodies.{instance_within};
 ghost use Rattle.smv_meaning.specs.Names.{local, look, steps_of, found_in};
-ghost use Rattle.smv_meaning.specs.Naming.{unnamed, named_found};
+ghost use Rattle.smv_meaning.specs.Naming.{unnamed};
 ghost use Rattle.smv_meaning.specs.Settled.{types_in};
 ghost use Rattle.smv_instances.specs.View.{instance_plain, local_plain, found_plain};
+ghost use Rattle.smv_instances.specs.Leads.{is_alias};
 ghost use Rattle.smv_types.specs.View.{named_seen};
-ghost use Rattle.smv_model_types.specs.Entries.{entries_seen, alias_or, entry_or, or_unnamed, variable_or, named_instance, named_symbol, entries_single, entries_walk, entries_names, HasEach};
+ghost use Rattle.smv_model_types.specs.Entries.{entries_seen, found_or, entry_or, or_unnamed, variable_or, named_instance, named_symbol, entries_single, entries_walk, entries_names, HasEach};
 
 use crate::domains::variable_named;
 use name_maps::{InstanceRows, row_value_in};
@@ -17,7 +17,7 @@ use smv_text::{Domain, Path, VarKind};
 use smv_types::{Named, Scope};
 use text_core::Names;
 
-/// The properties of variables, definitions and actuals, by instance and name.
+/// The properties of enumerations, definitions and actuals, by instance and name.
 pub(crate) type Entries<'a> = InstanceRows<'a, Named>;
 
 fn unnamed() -> Named
@@ -77,12 +77,34 @@ fn variable<'a>(entries: &Entries<'a>, i: usize, x: &[u8], kind: VarKind, domain
     }
 }
 
+// The properties of an alias: those of its target. The type of an enumeration is stored under the alias too.
+fn alias<'a>(table: &Table<'a>, entries: &Entries<'a>, i: usize, x: &[u8]) -> Named
+    requires alias { is_alias (local (map instance_plain table.now) i x.now) ≡ true }
+    ensures { named_seen result ≡ found_or (entries_seen entries.now) (entries_seen entries.now i x.now) (look (map instance_plain table.now) (steps_of (map instance_plain table.now)) i x.now) }
+{
+    match table.target_of_alias(i, x) {
+        Target::Variable(_, _, kind, domain) => variable(entries, i, x, kind, domain),
+        Target::Body(j, y, _, _) => entered(entries, j, y),
+        Target::Instance(_) => instance(),
+        Target::Symbol(_) => symbol(),
+        Target::Cyclic => unnamed(),
+        Target::Missing => unnamed(),
+    }
+}
+
 // The properties of a name that leads to no instance, given its meaning in its own instance.
-fn entry<'a>(entries: &Entries<'a>, i: usize, x: &[u8], known: Known<'a>) -> Named
-    ensures { named_seen result ≡ entry_or (local_plain known.entry) (entries_seen entries.now i x.now) }
+fn entry<'a>(
+    table: &Table<'a>,
+    entries: &Entries<'a>,
+    i: usize,
+    x: &[u8],
+    known: Known<'a>,
+) -> Named
+    requires known { local_plain known ≡ local (map instance_plain table.now) i x.now }
+    ensures { named_seen result ≡ entry_or (map instance_plain table.now) (entries_seen entries.now) i x.now (local_plain known.entry) }
 {
     match known {
-        Known::Alias(_, _) => entered(entries, i, x),
+        Known::Alias(_, _) => alias(table, entries, i, x),
         Known::Body(_, _) => entered(entries, i, x),
         Known::Variable(kind, domain) => variable(entries, i, x, kind, domain),
         Known::Instance => unnamed(),
@@ -103,27 +125,7 @@ fn ended<'a>(
 {
     match table.instance_of_name(i, x, known) {
         Some(_) => instance(),
-        None => entry(entries, i, x, known),
-    }
-}
-
-// The properties of a parameter whose actual is a path. Most have entries.
-fn alias<'a>(
-    table: &Table<'a>,
-    entries: &Entries<'a>,
-    i: usize,
-    x: &[u8],
-    known: Known<'a>,
-) -> Named
-    requires known { local_plain known ≡ local (map instance_plain table.now) i x.now }
-    ensures { named_seen result ≡ alias_or (entries_seen entries.now i x.now) (instance_within (look (map instance_plain table.now) (steps_of (map instance_plain table.now)) i x.now)) }
-{
-    match row_value_in(entries, i, x) {
-        Some(named) => named,
-        None => match table.instance_of_name(i, x, known) {
-            Some(_) => instance(),
-            None => unnamed(),
-        },
+        None => entry(table, entries, i, x, known),
     }
 }
 
@@ -139,7 +141,7 @@ fn single<'a>(
     ensures { named_seen result ≡ entries_single (map instance_plain table.now) (entries_seen entries.now) i x.now (local_plain known.entry) }
 {
     match known {
-        Known::Alias(_, _) => alias(table, entries, i, x, known),
+        Known::Alias(_, _) => alias(table, entries, i, x),
         Known::Body(_, _) => ended(table, entries, i, x, known),
         Known::Variable(_, _) => ended(table, entries, i, x, known),
         Known::Instance => ended(table, entries, i, x, known),
@@ -163,7 +165,7 @@ fn walked<'a>(table: &Table<'a>, entries: &Entries<'a>, i: usize, names: &Names)
         match (&*table).instance_of_name(at, x, known) {
             Some(c) => at = c,
             None => return if k + 1 == names.len() {
-                entry(entries, at, x, known)
+                entry(table, entries, at, x, known)
             } else {
                 unnamed()
             },
@@ -227,31 +229,6 @@ pub(crate) fn target_named<'a>(
             variable_on_path(table, entries, i, path, kind, domain)
         }
         Target::Body(j, x, _, _) => entered(entries, j, x),
-        Target::Instance(_) => instance(),
-        Target::Symbol(_) => symbol(),
-        Target::Cyclic => unnamed(),
-        Target::Missing => unnamed(),
-    }
-}
-
-/// Returns the properties of an alias with this path, by the entries, given its target.
-///
-/// Only a path to an enumeration, a definition or an actual is resolved again.
-pub(crate) fn alias_named<'a>(
-    table: &Table<'a>,
-    entries: &Entries<'a>,
-    i: usize,
-    path: &Path,
-    target: Target,
-) -> Named
-    requires { entries_names (map instance_plain table.now) (entries_seen entries.now) i path.now ≡ named_found true (types_in true (map instance_plain table.now)) (found_plain (map instance_plain table.now) target) }
-    ensures { named_seen result ≡ entries_names (map instance_plain table.now) (entries_seen entries.now) i path.now }
-{
-    match target {
-        Target::Variable(_, _, kind, domain) => {
-            variable_on_path(table, entries, i, path, kind, domain)
-        }
-        Target::Body(_, _, _, _) => path_named(table, entries, i, path),
         Target::Instance(_) => instance(),
         Target::Symbol(_) => symbol(),
         Target::Cyclic => unnamed(),

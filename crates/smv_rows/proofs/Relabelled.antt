@@ -17,8 +17,8 @@ use Rattle.smv_rows.specs.Relabelling.{input_or, Relabels}
 use Rattle.smv_rows.specs.RowOrders.{IsRowOrder, is_input, has_inputs}
 use Rattle.smv_rows.specs.Truths.{Fills}
 use Rattle.smv_rows.specs.declared.order.RowOrder.{RowOrder}
-use Rattle.smv_rows.specs.declared.parts.FlatParts.{FlatParts}
-use Rattle.smv_rows.specs.Parts.{parts_plain}
+use Rattle.smv_flat.specs.declared.parts.FlatParts.{FlatParts}
+use Rattle.smv_flat.specs.FlatParts.{parts_plain}
 
 neither : (a b : Bool) → (a || b) ≡ false → (a ≡ false) × (b ≡ false)
 neither true b h = absurd_bool (sym h)

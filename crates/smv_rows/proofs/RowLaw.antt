@@ -9,12 +9,12 @@ use Rattle.smv_flat.specs.declared.expressions.FlatExpr.{FlatExpr}
 use Rattle.smv_flat_laws.specs.FlatTruth.{Row, symbol_value, IsRow}
 use Rattle.smv_flat_evaluation.specs.RowValues.{row_values}
 use Rattle.smv_rows.specs.Filling.{bodies_in, filled, FillsSafely}
-use Rattle.smv_rows.specs.Parts.{parts_plain}
+use Rattle.smv_flat.specs.FlatParts.{parts_plain}
 use Rattle.smv_rows.specs.Places.{kind_and_place, item_place, NamesHave, given_value}
 use Rattle.smv_rows.specs.RowOrders.{IsRowOrder}
 use Rattle.smv_rows.specs.Truths.{Gives, CanFill, Fills}
 use Rattle.smv_rows.specs.declared.order.RowOrder.{RowOrder}
-use Rattle.smv_rows.specs.declared.parts.FlatParts.{FlatParts}
+use Rattle.smv_flat.specs.declared.parts.FlatParts.{FlatParts}
 use Rattle.smv_rows.specs.declared.places.ItemPlace.{ItemPlace}
 use Rattle.smv_rows.proofs.Filled.{row_meets}
 use Rattle.smv_rows.proofs.SafeFilled.{among_safe, fills_safely}

@@ -1,6 +1,5 @@
 pub mod Reading
 pub mod Filling
-pub mod Parts
 pub mod Places
 pub mod RowOrders
 pub mod Listed

@@ -6,11 +6,11 @@ use Rattle.smv_operators.specs.declared.seen.Seen.{Seen}
 use Rattle.smv_items.specs.declared.items.FlatItem.{FlatItem}
 use Rattle.smv_flat_laws.specs.FlatTruth.{IsRow}
 use Rattle.smv_flat_evaluation.specs.RowValues.{row_values}
-use Rattle.smv_rows.specs.Parts.{parts_plain}
+use Rattle.smv_flat.specs.FlatParts.{parts_plain}
 use Rattle.smv_rows.specs.Places.{IsGiven}
 use Rattle.smv_rows.specs.RowOrders.{is_input}
 use Rattle.smv_rows.specs.Truths.{RowsAreSafe}
-use Rattle.smv_rows.specs.declared.parts.FlatParts.{FlatParts}
+use Rattle.smv_flat.specs.declared.parts.FlatParts.{FlatParts}
 
 -- the first value for an input, else the second
 abbrev pub input_or : Option FlatItem → Value → Value → Value

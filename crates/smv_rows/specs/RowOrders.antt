@@ -15,9 +15,9 @@ use Rattle.smv_flat.specs.declared.forms.Role.TheVariants.{Body}
 use Rattle.smv_flat.specs.FlatForms.{Form, PlainFlat, flat_smv}
 use Rattle.smv_rows.specs.Reading.{all_read}
 use Rattle.smv_rows.specs.Filling.{Bodies, body_plain, bodies_in}
-use Rattle.smv_rows.specs.Parts.{parts_plain}
+use Rattle.smv_flat.specs.FlatParts.{parts_plain}
 use Rattle.smv_rows.specs.Places.{HavePlaces}
-use Rattle.smv_rows.specs.declared.parts.FlatParts.{FlatParts}
+use Rattle.smv_flat.specs.declared.parts.FlatParts.{FlatParts}
 use Rattle.smv_rows.specs.declared.order.RowOrder.{RowOrder}
 
 -- ---- bodies

@@ -11,8 +11,8 @@ use Rattle.smv_flat_evaluation.specs.FlatSafety.{FormsSafe}
 use Rattle.smv_items.specs.declared.items.FlatItem.{FlatItem}
 use Rattle.smv_rows.specs.Places.{HavePlaces, IsGiven}
 use Rattle.smv_rows.specs.declared.order.RowOrder.{RowOrder}
-use Rattle.smv_rows.specs.declared.parts.FlatParts.{FlatParts}
-use Rattle.smv_rows.specs.Parts.{parts_plain}
+use Rattle.smv_flat.specs.declared.parts.FlatParts.{FlatParts}
+use Rattle.smv_flat.specs.FlatParts.{parts_plain}
 
 -- a formula, if it speaks of this time
 abbrev pub row_role_holds : List (List ℕ) → When → (target now later : List Seen) → Form → Bool

@@ -5,7 +5,6 @@ mod bodies;
 mod laws;
 mod listed;
 mod order;
-mod parts;
 mod places;
 mod reading;
 mod references;
@@ -15,7 +14,6 @@ mod variables;
 
 pub use laws::flat_is_orderly;
 pub use order::{RowOrder, row_order};
-pub use parts::FlatParts;
 pub use places::ItemPlace;
 pub use row::Row;
 pub use truth::{frozen_stay, init_holds, invar_holds, is_broken, trans_holds};

@@ -1,14 +1,13 @@
 // The data needed to fill rows of a flat form.
 ghost use Rattle.std.specs.Prelude.{◌≡◌, IfOk};
-ghost use Rattle.smv_rows.specs.Parts.{parts_plain};
+ghost use Rattle.smv_flat.specs.FlatParts.{parts_plain};
 ghost use Rattle.smv_rows.specs.RowOrders.{IsOrderly, IsRowOrder, has_inputs, is_input};
 
 use crate::bodies::bodies_of;
-use crate::parts::FlatParts;
 use crate::places::{ItemPlace, name_all, places_of};
 use crate::references::order_of;
 use name_maps::NameTable;
-use smv_flat::FlatExpr;
+use smv_flat::{FlatExpr, FlatParts};
 use smv_items::{FlatItem, ItemKind};
 use std::alloc::Global;
 use text_core::{List, NoMemory};

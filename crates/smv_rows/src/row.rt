@@ -6,7 +6,7 @@ ghost use Rattle.smv_flat_laws.specs.FlatTruth.{symbol_value};
 ghost use Rattle.smv_flat_evaluation.specs.RowValues.{row_values};
 ghost use Rattle.smv_rows.specs.Filling.{body_plain, bodies_in, with_body, filled, BodySafe, FillsSafely};
 ghost use Rattle.smv_rows.specs.Listed.{AreListed};
-ghost use Rattle.smv_rows.specs.Parts.{parts_plain};
+ghost use Rattle.smv_flat.specs.FlatParts.{parts_plain};
 ghost use Rattle.smv_rows.specs.Places.{IsGiven};
 ghost use Rattle.smv_rows.specs.Relabelling.{CanRelabel, Relabels};
 ghost use Rattle.smv_rows.specs.RowOrders.{IsRowOrder};
@@ -14,15 +14,14 @@ ghost use Rattle.smv_rows.specs.Truths.{Gives, CanFill, Fills};
 
 use crate::listed::{give_inputs, give_listed};
 use crate::order::RowOrder;
-use crate::parts::FlatParts;
 use crate::variables::{give_names, give_variables};
-use name_maps::Successors;
-use smv_flat::FlatExpr;
+use name_maps::{NameSet, Successors};
+use smv_flat::{FlatExpr, FlatParts};
 use smv_flat_evaluation::evaluate;
 use smv_meaning::State;
 use smv_operators::Seen;
 use std::alloc::Global;
-use text_core::{Names, NoMemory};
+use text_core::NoMemory;
 
 /// The value of each item of a flat form in a state and under a label, by item number.
 ///
@@ -134,7 +133,7 @@ impl<'a> Row<'a> {
 
 // Evaluates the bodies in order.
 fn fill_bodies<'a>(
-    symbols: &'a Names,
+    symbols: &'a NameSet,
     bodies: &[Option<&FlatExpr>],
     order: &[usize],
     values: &mut Vec<Seen<'a>>,
@@ -153,7 +152,12 @@ fn fill_bodies<'a>(
 }
 
 // Sets an item to the value of its body, if it has one.
-fn fill_body<'a>(symbols: &'a Names, body: Option<&FlatExpr>, k: usize, values: &mut Vec<Seen<'a>>)
+fn fill_body<'a>(
+    symbols: &'a NameSet,
+    body: Option<&FlatExpr>,
+    k: usize,
+    values: &mut Vec<Seen<'a>>,
+)
     requires low { k < length values.old.items }
     requires safe { BodySafe (symbol_value symbols.now) (row_values values.old.items) (body_plain body) }
     ensures size { length values.new.items ≡ length values.old.items }

@@ -10,20 +10,19 @@ ghost use Rattle.smv_flat_laws.specs.FlatTruth.{kind_stays as kind_keeps, items_
 ghost use Rattle.smv_flat_evaluation.specs.RowValues.{row_values, row_denote};
 ghost use Rattle.smv_flat_evaluation.specs.FlatSafety.{RowSafe};
 ghost use Rattle.smv_rows.specs.Filling.{body_plain};
-ghost use Rattle.smv_rows.specs.Parts.{parts_plain};
+ghost use Rattle.smv_flat.specs.FlatParts.{parts_plain};
 ghost use Rattle.smv_rows.specs.Truths.{row_role_holds, row_forms_hold, AllSafe};
 
-use crate::parts::FlatParts;
 use crate::row::Row;
-use smv_flat::{FlatExpr, FlatFormula, Role};
+use name_maps::NameSet;
+use smv_flat::{FlatExpr, FlatFormula, FlatParts, Role};
 use smv_flat_evaluation::{evaluate, item_at, permits};
 use smv_items::{FlatItem, ItemKind};
 use smv_operators::{Seen, are_same, truth_of};
 use smv_text::When;
-use text_core::Names;
 
 // Whether the expression is true.
-fn is_true<'a>(symbols: &'a Names, e: &FlatExpr, now: &[Seen<'a>], later: &[Seen<'a>]) -> bool
+fn is_true<'a>(symbols: &'a NameSet, e: &FlatExpr, now: &[Seen<'a>], later: &[Seen<'a>]) -> bool
     requires { RowSafe symbols.now now.now later.now (plain_flat e.now) }
     ensures { result ≡ truth (row_denote symbols.now now.now later.now (plain_flat e.now)).value }
 {
@@ -38,7 +37,7 @@ fn is_same(a: When, b: When) -> bool
 
 // Whether the formula holds, if it applies at this time. An assignment must permit the value of its item in `target`.
 fn formula_holds<'a>(
-    symbols: &'a Names,
+    symbols: &'a NameSet,
     formula: &FlatFormula,
     when: When,
     target: &[Seen<'a>],

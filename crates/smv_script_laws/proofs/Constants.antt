@@ -24,7 +24,7 @@ use Rattle.moxi_term_reading.specs.Answer.{locals_of}
 use Rattle.moxi_term_print.specs.Terms.{name_at, constant_name, variable_names}
 use Rattle.moxi_term_print.specs.WellScoped.{IsWellScoped}
 use Rattle.moxi_term_print.specs.laws.StandingPlaces.{place_front}
-use Rattle.smv_accepted.proofs.Lists.{differ_mapped}
+use Rattle.smv_items.specs.laws.Differing.{differ_mapped}
 use Rattle.smv_accepted.proofs.Symbols.{symbols_are_distinct_law}
 use Rattle.smv_script.specs.Script.{symbol_sort}
 use Rattle.smv_script_laws.specs.LetNames.{AreLetNames}

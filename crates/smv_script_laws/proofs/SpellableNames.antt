@@ -23,7 +23,7 @@ use Rattle.smv_flat_laws.specs.FlatTruth.{forms_invariants}
 use Rattle.smv_width.specs.FlatWidth.{width_of}
 use Rattle.smv_accepted.specs.Names.{is_name_byte, is_dotted_byte, IsIdentifier, IsDottedName}
 use Rattle.smv_accepted.proofs.ItemNames.{names_are_words_law, symbols_are_words_law}
-use Rattle.smv_accepted.proofs.Lists.{all_weaker}
+use Rattle.smv_items.specs.laws.Differing.{all_weaker}
 use Rattle.smv_text.specs.Bytes.{is_letter}
 use Rattle.moxi_sexpr.specs.Bytes.{is_barred_byte}
 use Rattle.moxi_terms.specs.declared.term.Variable.{Variable}

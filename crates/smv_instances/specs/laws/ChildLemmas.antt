@@ -1,5 +1,5 @@
 -- The first instance of a name in an instance.
-use Rattle.std.proofs.Common.{◌≡◌, ℕ, ◌+◌, ◌<◌, ◌≤◌, Bool, false, ◌&&◌, ◌==◌, nat_lt, not, cond, if◌then◌else◌, List, [], ◌∷◌, ◌++◌, map, take, length, position, Option, Some, None, is_none, bytes_eq, refl, sym, ap, ◌∙◌, arith}
+use Rattle.std.proofs.Common.{◌≡◌, ℕ, ◌+◌, ◌<◌, ◌≤◌, Bool, ◌&&◌, ◌==◌, nat_lt, not, cond, if◌then◌else◌, List, [], ◌∷◌, ◌++◌, map, take, length, position, Option, Some, None, is_none, sym, ap, ◌∙◌, arith}
 use Rattle.std.specs.Prelude.{slice_index_or}
 use Rattle.std.specs.List.{position_or_len}
 use Rattle.std.proofs.lemmas.Bool.Decides.{nat_tests}
@@ -9,7 +9,7 @@ use Rattle.std.proofs.Math.Numerals.{add-one}
 use Rattle.std.proofs.lemmas.List.Folds.{position_or_len_push}
 use Rattle.std.proofs.Math.Seq.{take-suc}
 use Rattle.smv_instances.specs.declared.instances.Instance.{Instance as PartOf}
-use Rattle.smv_meaning.specs.Names.{is_parent, is_child}
+use Rattle.smv_meaning.specs.Names.{is_child}
 use Rattle.smv_instances.specs.View.{instance_plain}
 
 place_pushed : (q n o m : ℕ) (b : Bool) → q ≤ n → o ≡ cond (q == n) (n + cond b 0 1) q → m ≡ n + 1
@@ -31,13 +31,6 @@ with_part ts c n p i x o new e h is s k =
     k ∙ ap (λ q. if is_none q && is_child i x (instance_plain p) then Some c else q) s
     ∙ ap (λ m. if is_none (position (is_child i x) (map instance_plain (take c ts))) && is_child i x (instance_plain p) then Some m else position (is_child i x) (map instance_plain (take c ts))) (sym l)
     ∙ sym (position_push (is_child i x) (map instance_plain (take c ts)) (instance_plain p)) ∙ ap (position (is_child i x)) (sym b)
-
-pub unchanged : (p : PartOf) (o : Option ℕ) (c i : ℕ) (x : List ℕ) → p.parent ≡ None → o ≡ (if is_none o && is_child i x (instance_plain p) then Some c else o)
-unchanged p o c i x e = over o ∙ ap (λ q. if is_none o && (is_parent i q && bytes_eq p.name.now x) then Some c else o) (sym e)
-  where
-    over : (o : Option ℕ) → o ≡ (if is_none o && false then Some c else o)
-    over None = refl
-    over (Some n) = refl
 
 pub whole : (ts : List PartOf) (c n i : ℕ) (x : List ℕ) (o : Option ℕ) → n ≡ length ts → n ≤ c → o ≡ position (is_child i x) (map instance_plain (take c ts)) → o ≡ position (is_child i x) (map instance_plain ts)
 whole ts c n i x o e h s = s ∙ ap (λ l. position (is_child i x) (map instance_plain l)) (take_all c ts (omega (arith, e, h)))

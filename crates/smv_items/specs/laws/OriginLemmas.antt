@@ -1,5 +1,6 @@
 -- Lists of items, grown from the left, and where the items of an instance end.
 use Rattle.std.proofs.Common.{◌≡◌, ℕ, ◌+◌, ◌<◌, ◌==◌, Bool, true, false, if◌then◌else◌, List, [], ◌∷◌, ◌++◌, take, drop, length, map, flat_map, Option, Some, None, refl, sym, ap, ◌∙◌, append_assoc, arith}
+use Rattle.std.specs.List.{AllByRecursion}
 use Rattle.std.proofs.lemmas.Bool.{eqb-true, eq-eqb}
 use Rattle.std.proofs.lemmas.List.{take-map, drop-map}
 use Rattle.std.proofs.Math.Seq.{take-append_seam, drop-append_seam}
@@ -26,9 +27,8 @@ none_actual i j (q ∷ qs) = refl
 
 -- ---- all items of an instance have its number
 
-abbrev AllOwn : ℕ → List Origin → Type 0
-AllOwn i [] = Unit {0}
-AllOwn i (m ∷ ms) = (m.instance ≡ i) × AllOwn i ms
+abbrev pub AllOwn : ℕ → List Origin → Type 0
+AllOwn i ms = AllByRecursion (λ m. m.instance ≡ i) ms
 
 own_both : (i : ℕ) (xs ys : List Origin) → AllOwn i xs → AllOwn i ys → AllOwn i (xs ++ ys)
 own_both i [] ys h k = k
@@ -61,7 +61,7 @@ own_element i (trans e) = tt
 own_element i (invar e) = tt
 own_element i (spec label e) = tt
 
-own_here : (i : ℕ) (at : Instance) → AllOwn i (items_here i at)
+pub own_here : (i : ℕ) (at : Instance) → AllOwn i (items_here i at)
 own_here i at =
     own_both i (actual_items i (parent_of at) at.module.parameters at.actuals) (flat_map (element_items i) at.module.elements) (own_actuals i (parent_of at) at.module.parameters at.actuals)
     (own_each i (element_items i) (own_element i) at.module.elements)

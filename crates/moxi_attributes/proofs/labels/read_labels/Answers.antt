@@ -1,5 +1,5 @@
-use Rattle.std.proofs.Common.{◌+◌, drop, ap, sym, ◌∙◌}
-use Rattle.moxi_sexpr.specs.Tree.{plain, plain_forms}
+use Rattle.std.proofs.Common.{◌+◌, drop, ap, sym, ◌∙◌, arith}
+use Rattle.moxi_sexpr.specs.Tree.{all_nodes, plain, plain_forms}
 use Rattle.moxi_scripts.specs.declared.parts.Command.TheVariants.{Check}
 use Rattle.moxi_scripts.specs.Attributes.{turn_after}
 use Rattle.moxi_scripts.specs.Collecting.{also}
@@ -8,6 +8,12 @@ use Rattle.moxi_attributes.specs.Views.{plain_labels}
 use Rattle.moxi_attributes.specs.laws.Collecting.{also_end, also_step}
 use Rattle.moxi_scripts.proofs.Forms.{forms_end, forms_step}
 use Rattle.moxi_attributes.proofs.labels.read_labels.Goals as goal
+
+pub read_label_at-requires : goal.read_label_at-requires
+read_label_at-requires c =
+    let l = c.loop-form in
+    let e = forms_step c.args.forms.now l.form-index c.form-item.result c.loop-form-test.true c.form-item.is in
+    omega (arith, ap all_nodes e, l.invariant.few)
 
 pub loop-form-preserved : goal.loop-form-preserved
 loop-form-preserved c =
@@ -20,6 +26,7 @@ loop-form-preserved c =
     let after = turn_after Check l.turn (plain c.form-item.result) in
     let got = c.in_ok-read_label_at.ensures in
     record {
+      few = omega (arith, ap all_nodes e, l.invariant.few);
       labels = ap (λ t. labels_after s v (plain_labels c.read_label_at.new.ls) t rest) c.turn_after-turn.ensures
           ∙ ap (λ x. labels_after s v x after rest) got.labels ∙ ap (labels_after s v (plain_labels l.ls) l.turn) (sym e) ∙ l.invariant.labels;
       finds = ap (λ t. also c.read_label_at.new.found (labels_failures s v (plain_labels c.read_label_at.new.ls) t rest)) c.turn_after-turn.ensures

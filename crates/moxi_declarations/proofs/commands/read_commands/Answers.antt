@@ -1,8 +1,8 @@
-use Rattle.std.proofs.Common.{◌≡◌, ◌+◌, ◌≤◌, drop, ap, sym, ◌∙◌, subst, arith}
-use Rattle.moxi_sexpr.specs.Tree.{plain, plain_forms}
+use Rattle.std.proofs.Common.{◌+◌, ◌≤◌, drop, ap, sym, ◌∙◌, subst, arith}
+use Rattle.moxi_sexpr.specs.Tree.{all_nodes, nodes, plain, plain_forms}
 use Rattle.moxi_scripts.specs.Collecting.{also}
 use Rattle.moxi_scripts.specs.Commands.{commands_failures, reading_after}
-use Rattle.moxi_declarations.specs.Sizes.{all_nodes, nodes, reading_size}
+use Rattle.moxi_declarations.specs.Sizes.{reading_size}
 use Rattle.moxi_declarations.specs.Views.{plain_draft}
 use Rattle.moxi_declarations.proofs.SizeLaws.{form_grows}
 use Rattle.moxi_attributes.specs.laws.Collecting.{also_end, also_step}

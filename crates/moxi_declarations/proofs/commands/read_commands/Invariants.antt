@@ -1,8 +1,8 @@
 use Rattle.std.proofs.Common.{◌≡◌, ◌<◌, ◌+◌, ◌^◌, drop}
-use Rattle.moxi_sexpr.specs.Tree.{plain_forms}
+use Rattle.moxi_sexpr.specs.Tree.{all_nodes, plain_forms}
 use Rattle.moxi_scripts.specs.Collecting.{also}
 use Rattle.moxi_scripts.specs.Commands.{commands_failures, reading_after}
-use Rattle.moxi_declarations.specs.Sizes.{all_nodes, reading_size}
+use Rattle.moxi_declarations.specs.Sizes.{reading_size}
 use Rattle.moxi_declarations.specs.Views.{plain_draft}
 use Rattle.moxi_declarations.proofs.commands.read_commands.Given as goal
 

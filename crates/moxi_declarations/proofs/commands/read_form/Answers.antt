@@ -1,10 +1,9 @@
 use Rattle.std.proofs.Common.{◌≡◌, suc, Some, ap, sym, ◌∙◌, arith}
-use Rattle.moxi_sexpr.specs.Tree.{plain, plain_forms}
+use Rattle.moxi_sexpr.specs.Tree.{all_nodes, nodes, plain, plain_forms}
 use Rattle.moxi_term_reading.proofs.ReadingLaws.{plain_list}
 use Rattle.moxi_scripts.specs.Shapes.{headed}
 use Rattle.moxi_attributes.specs.Views.{headed_here, headed_now}
-use Rattle.moxi_declarations.specs.Sizes.{all_nodes, nodes}
-use Rattle.moxi_declarations.proofs.SizeLaws.{headed_few}
+use Rattle.moxi_attributes.specs.laws.FormSizes.{headed_few}
 use Rattle.moxi_declarations.proofs.commands.read_form.Goals as goal
 
 pub read_headed-requires : goal.read_headed-requires

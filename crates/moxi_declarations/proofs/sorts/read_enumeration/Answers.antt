@@ -2,7 +2,7 @@ use Rattle.std.proofs.Common.{◌≡◌, Some, ap, sym, ◌∙◌, arith}
 use Rattle.moxi_sexpr.specs.Tree.{plain_forms}
 use Rattle.moxi_scripts.specs.Shapes.{headed, named_in}
 use Rattle.moxi_attributes.specs.Views.{named_here, named_now}
-use Rattle.moxi_declarations.proofs.SizeLaws.{named_few}
+use Rattle.moxi_attributes.specs.laws.FormSizes.{named_few}
 use Rattle.moxi_declarations.proofs.sorts.read_enumeration.Goals as goal
 
 pub read_listed-requires : goal.read_listed-requires

@@ -2,7 +2,8 @@ use Rattle.std.proofs.Common.{◌≡◌, Some, ap, sym, ◌∙◌, arith}
 use Rattle.moxi_sexpr.specs.Tree.{plain, plain_forms}
 use Rattle.moxi_scripts.specs.Shapes.{parts_of}
 use Rattle.moxi_attributes.specs.Views.{parts_now}
-use Rattle.moxi_declarations.proofs.SizeLaws.{parts_few, symbols_few}
+use Rattle.moxi_attributes.specs.laws.FormSizes.{parts_few}
+use Rattle.moxi_declarations.proofs.SizeLaws.{symbols_few}
 use Rattle.moxi_declarations.proofs.sorts.read_listed.Goals as goal
 
 pub add_constants-requires : goal.add_constants-requires

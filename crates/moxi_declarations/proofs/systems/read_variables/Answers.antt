@@ -22,6 +22,12 @@ lists_are s command ts l e f g =
     ap (λ x. three_lists x l.outputs l.locals) e ∙ ap (λ x. three_lists (list_of s (value_at command keys.Input ts)) x l.locals) f
     ∙ ap (three_lists (list_of s (value_at command keys.Input ts)) (list_of s (value_at command keys.Output ts))) g
 
+pub read_locals-requires-clause-lists : goal.read_locals-requires-clause-lists
+read_locals-requires-clause-lists c =
+    let a = c.args in
+    let got = c.in_ok-lists.ensures in
+    lists_are a.scope.now a.command (plain_forms a.forms.now) c.in_ok-lists.lists got.inputs got.outputs got.locals
+
 pub returns-clause-locals : goal.returns-clause-locals
 returns-clause-locals c =
     let a = c.args in

@@ -1,9 +1,9 @@
 use Rattle.std.proofs.Common.{◌≡◌, ◌+◌, ◌≤◌, ◌<◌, ◌^◌, length, map, ap, sym, ◌∙◌, subst, arith}
 use Rattle.std.proofs.lemmas.List.{length-map}
-use Rattle.moxi_sexpr.specs.Tree.{plain_forms}
+use Rattle.moxi_sexpr.specs.Tree.{all_nodes, plain_forms}
 use Rattle.moxi_scripts.specs.Collecting.{also}
 use Rattle.moxi_scripts.specs.Commands.{commands_failures, nothing_read, reading_after}
-use Rattle.moxi_declarations.specs.Sizes.{all_nodes, reading_size}
+use Rattle.moxi_declarations.specs.Sizes.{reading_size}
 use Rattle.moxi_declarations.specs.Views.{plain_draft, plain_reading}
 use Rattle.moxi_scripts.specs.Cycles.{count_uses, cycle_failures}
 use Rattle.moxi_scripts.specs.Links.{links_failures}

@@ -4,11 +4,10 @@ use Rattle.text_core.specs.declared.end.End.{End}
 use Rattle.text_core.specs.declared.end.End.TheVariants.{Bad, NoMemory}
 use Rattle.text_core.specs.declared.place.Place.{Place}
 use Rattle.text_core.specs.declared.place.Refusal.{Refusal}
-use Rattle.moxi_sexpr.specs.Tree.{Trees, plain_forms}
+use Rattle.moxi_sexpr.specs.Tree.{all_nodes, Trees, plain_forms}
 use Rattle.moxi_term_reading.specs.Failures.{least}
 use Rattle.moxi_scripts.specs.declared.script.Script.{Script}
 use Rattle.moxi_scripts.specs.Kinds.{HasScriptKind}
-use Rattle.moxi_declarations.specs.Sizes.{all_nodes}
 use Rattle.moxi_reading.specs.Answer.{IsFirstFailure, IsFirstOf, IsRefusal, IsScript}
 use Rattle.moxi_scripts.specs.Script.{PlainScript}
 use Rattle.moxi_scripts.specs.ScriptView.{plain_script}
@@ -54,9 +53,9 @@ script_in-script-requires-clause-printable c = c.requires
 
 pub script_in-script-requires-clause-few : goal.script_in-script-requires-clause-few
 script_in-script-requires-clause-few c =
-    let counted : c.count_nodes.result ≡ min (all_nodes (plain_forms c.args.forms.now.items)) (2 ^ 32) =
-    c.count_nodes.ensures ∙ ap (λ fs. min (all_nodes (plain_forms fs)) (2 ^ 32)) c.deref.ensures.value in
-    omega (arith, counted, c.if-count_nodes-eq-MANY.false)
+    let counted : c.count_all_nodes.result ≡ min (all_nodes (plain_forms c.args.forms.now.items)) (2 ^ 32) =
+    c.count_all_nodes.ensures ∙ ap (λ fs. min (all_nodes (plain_forms fs)) (2 ^ 32)) c.deref.ensures.value in
+    omega (arith, counted, c.if-count_all_nodes-eq-MANY_NODES.false)
 
 pub script_in-script-requires-clause-nothing : goal.script_in-script-requires-clause-nothing
 script_in-script-requires-clause-nothing c = c.nothing_read-draft.ensures

@@ -1,4 +1,4 @@
-use Rattle.std.proofs.Common.{◌≡◌, [], ◌++◌, ◌+◌, true, false, cond, Some, map, drop, refl, sym, ap, ◌∙◌, subst, arith, drop_of_length-le}
+use Rattle.std.proofs.Common.{◌≡◌, [], ◌++◌, ◌+◌, true, false, cond, Some, length, map, drop, refl, sym, ap, ◌∙◌, subst, arith, drop_of_length-le}
 use Rattle.std.proofs.lemmas.List.{append-nil}
 use Rattle.std.specs.Prelude.{codes}
 use Rattle.moxi_sexpr.specs.declared.form.Form.{out-Form}
@@ -8,6 +8,7 @@ use Rattle.moxi_term_reading.specs.Failures.{least}
 use Rattle.moxi_term_reading.specs.Forms.{sizes, is_named, is_word, pair_now, symbol_of, symbol_now, place_in, is_primed}
 use Rattle.moxi_term_reading.specs.Reading.{no_arguments, argument, both_arguments, no_bindings, both_bindings, bound_to, binding_of, bindings_tests, prime_failures, let_reading, application, underscore_reading, head_primes, head_of, read, read_all, read_let, read_binding, read_bindings}
 use Rattle.moxi_term_reading.specs.Answer.{IsRead, AreStacked, AreBound, context_of}
+use Rattle.moxi_term_reading.proofs.BoundLaws.{bindings_few}
 use Rattle.moxi_term_reading.proofs.ReadingLaws.{tests_both, arguments_assoc, arguments_front, arguments_back, forms_step, plain_list, pair_is, if_ok_map, on_ok_map}
 use Rattle.moxi_term_reading.proofs.read.+read.Goals as goal
 
@@ -19,6 +20,7 @@ read_all-loop-form-init t c = record {
     arguments_front (read_all (context_of c.args.setting) c.args.bounds.now (form.plain_forms c.args.forms.now)),
   );
   kept = refl;
+  few = omega arith;
   left = omega arith;
 }
 
@@ -41,6 +43,7 @@ read_all-loop-form-preserved t c =
     record {
       read = (both_arguments x.0 y, got, arguments_assoc x.0 y (read_all ctx b rest) ∙ ap (λ ts. both_arguments x.0 (read_all ctx b ts)) (sym e) ∙ x.2);
       kept = kept ∙ l.invariant.kept;
+      few = omega (arith, ap form.all_nodes e, l.invariant.few);
       left = omega (arith, ap sizes e, l.invariant.left);
     }
 
@@ -60,6 +63,7 @@ read_bindings-loop-form-init t c = record {
   read = (no_bindings, record { names = c.new.ensures; locals = c.new-2.ensures; terms = ap (map plain) c.new-3.ensures.items; shape = refl; failure = refl }, refl);
   kept = refl;
   stack = refl;
+  few = omega arith;
   left = omega arith;
 }
 
@@ -132,6 +136,22 @@ read_list-returns-else-is_named-2-clause-read t c =
     if_ok_map _ _ c.read_application.result
     (λ r g. subst (λ x. IsRead x r) (sym is) g)
     c.read_application.ensures.read
+
+pub read_let-read_body-requires : goal.read_let-read_body-requires
+read_let-read_body-requires t c =
+    let ctx = context_of c.args.setting in
+    let f = c.in-Some.list.now in
+    let q = (out-Form f).place in
+    let body = form.plain c.in-Some.body.now in
+    let bs = form.plain_forms c.in-List.parts.items in
+    let rest : form.plain_forms c.args.rest.now ≡ form.tree (form.list q bs) (form.tree body form.no_trees) =
+    pair_is (form.plain_forms c.args.rest.now) (form.plain f) body (ap pair_now (sym c.in-Some.is) ∙ c.pair.ensures)
+    ∙ ap (λ x. form.tree x (form.tree body form.no_trees)) (plain_list f c.in-List.parts c.in-List.is) in
+    let bound : AreBound (read_bindings ctx c.args.bounds.now q bs) c.in_ok-bindings-in-List.bindings =
+    subst (λ fs. AreBound (read_bindings ctx c.args.bounds.now q (form.plain_forms fs)) c.in_ok-bindings-in-List.bindings) c.deref.ensures.value c.in_ok-bindings-in-List.ensures.read in (
+      omega (arith, ap sizes rest, c.decreases),
+      omega (arith, ap form.all_nodes rest, ap length bound.locals, bindings_few ctx c.args.bounds.now q bs, ap length c.in_ok-bindings-in-List.ensures.kept, c.requires.few),
+    )
 
 pub read_let-returns-in_ok-bindings-in-List-clause-read : goal.read_let-returns-in_ok-bindings-in-List-clause-read
 read_let-returns-in_ok-bindings-in-List-clause-read t c =

@@ -1,5 +1,5 @@
 use Rattle.std.proofs.Common.{◌≡◌, ◌≤◌, ◌+◌, drop}
-use Rattle.moxi_sexpr.specs.Tree.{plain, plain_forms}
+use Rattle.moxi_sexpr.specs.Tree.{all_nodes, plain, plain_forms}
 use Rattle.moxi_term_reading.specs.Answer.{AreStacked, AreBound, context_of}
 use Rattle.moxi_term_reading.specs.Forms.{size, sizes}
 use Rattle.moxi_term_reading.specs.Reading.{Arguments, Bindings, both_arguments, both_bindings, read_all, read_bindings}
@@ -36,6 +36,7 @@ abbrev pub invariant-read_all-loop-form : goal.invariant-read_all-loop-form
 invariant-read_all-loop-form l = record {
   read : (x : Arguments) × AreStacked x l.args l.fn.sorts.items l.sorts.items × (both_arguments x (read_all (context_of l.setting) l.fn.bounds (plain_forms (drop l.form-index l.forms))) ≡ read_all (context_of l.setting) l.fn.bounds (plain_forms l.forms));
   kept : l.bounds ≡ l.fn.bounds;
+  few : all_nodes (plain_forms (drop l.form-index l.forms)) ≤ all_nodes (plain_forms l.forms);
   left : sizes (plain_forms (drop l.form-index l.forms)) ≤ sizes (plain_forms l.forms);
 }
 
@@ -44,5 +45,6 @@ invariant-read_bindings-loop-form l = record {
   read : (x : Bindings) × AreBound x l.all × (both_bindings x (read_bindings (context_of l.setting) l.fn.bounds l.q (plain_forms (drop l.form-index l.forms))) ≡ read_bindings (context_of l.setting) l.fn.bounds l.q (plain_forms l.forms));
   kept : l.bounds ≡ l.fn.bounds;
   stack : l.sorts.items ≡ l.fn.sorts.items;
+  few : all_nodes (plain_forms (drop l.form-index l.forms)) ≤ all_nodes (plain_forms l.forms);
   left : sizes (plain_forms (drop l.form-index l.forms)) ≤ sizes (plain_forms l.forms);
 }

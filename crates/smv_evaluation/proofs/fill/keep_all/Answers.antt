@@ -8,7 +8,8 @@ use Rattle.smv_references.specs.View.{body_plain}
 use Rattle.smv_evaluation.specs.View.{stated}
 use Rattle.smv_laws.proofs.Ranked.{key}
 use Rattle.smv_references.specs.laws.NumberLemmas.{read}
-use Rattle.smv_evaluation.proofs.Positions.{at_place, kept_low, kept_at}
+use Rattle.smv_laws.proofs.Positions.{at_place}
+use Rattle.smv_evaluation.proofs.Positions.{kept_low, kept_at}
 use Rattle.smv_evaluation.proofs.Filling.{ready, kept_on, kept_end, kept_none}
 use Rattle.smv_evaluation.proofs.fill.keep_all.Goals as goal
 

@@ -4,7 +4,7 @@ use Rattle.smv_meaning.specs.Names.{body_of, local, body_at}
 use Rattle.smv_evaluation.specs.Rows.{is_marked, FoundIsCached}
 use Rattle.smv_instances.specs.View.{instance_plain}
 use Rattle.smv_laws.proofs.Ranked.{key}
-use Rattle.smv_evaluation.proofs.Positions.{order_rank}
+use Rattle.smv_laws.proofs.Positions.{order_rank}
 use Rattle.smv_evaluation.proofs.fill.keep_all.Given as goal
 
 abbrev pub invariant-loop-n : goal.invariant-loop-n

@@ -5,7 +5,8 @@ use Rattle.smv_instances.specs.View.{instance_plain}
 use Rattle.smv_laws.proofs.Ranked.{key}
 use Rattle.smv_laws.proofs.OrderLaws.{number}
 use Rattle.smv_references.specs.laws.NumberLemmas.{read}
-use Rattle.smv_evaluation.proofs.Positions.{at_place, upto_positive, kept_low, kept_at}
+use Rattle.smv_laws.proofs.Positions.{at_place, upto_positive}
+use Rattle.smv_evaluation.proofs.Positions.{kept_low, kept_at}
 use Rattle.smv_evaluation.proofs.Reaching.{start_on, least_on, ClosedBehind, closed_on, closed_end, first_starts, first_least}
 use Rattle.smv_evaluation.proofs.reached.marks_of.Goals as goal
 

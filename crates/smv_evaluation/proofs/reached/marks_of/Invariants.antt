@@ -5,7 +5,7 @@ use Rattle.smv_evaluation.specs.Rows.{is_marked, MarksStart, MarksLeast}
 use Rattle.smv_meaning.specs.Reached.{local_leads_to}
 use Rattle.smv_instances.specs.View.{instance_plain}
 use Rattle.smv_laws.proofs.Ranked.{key}
-use Rattle.smv_evaluation.proofs.Positions.{order_rank}
+use Rattle.smv_laws.proofs.Positions.{order_rank}
 use Rattle.smv_evaluation.proofs.reached.marks_of.Given as goal
 
 abbrev pub invariant-loop-n : goal.invariant-loop-n

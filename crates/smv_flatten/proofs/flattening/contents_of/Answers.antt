@@ -11,4 +11,4 @@ pub returns-clause-width : goal.returns-clause-width
 returns-clause-width c =
     let t = map instance_plain c.args.table.now in
     let origins = ap (map origin_plain) c.as_slice-origins.ensures.value ∙ c.requires.origins in
-    c.width_of-width.ensures.value (flat_of t) (sym (ap (map item_plain) c.deref.ensures.value ∙ c.in_ok-items.ensures ∙ ap (map (flat_item_of t)) origins)) (sym (ap (map form_plain) c.deref-2.ensures.value ∙ c.in_ok-formulas.ensures))
+    c.width_of-width.ensures.value (flat_of t) (sym (ap (map item_plain) c.deref-2.ensures.value ∙ c.in_ok-items.ensures ∙ ap (map (flat_item_of t)) origins)) (sym (ap (map form_plain) c.deref-3.ensures.value ∙ c.in_ok-formulas.ensures))

@@ -4,7 +4,7 @@ use Rattle.smv_meaning.specs.Orders.{numbered}
 use Rattle.smv_instances.specs.View.{instance_plain}
 use Rattle.smv_model_types.specs.Entries.{entries_seen}
 use Rattle.smv_model_types.proofs.Filling.{Holds, none_held, all_held}
-use Rattle.smv_model_types.proofs.InOrder.{number_low, next_ready, next_put}
+use Rattle.smv_model_types.proofs.InOrder.{number_low, next_put}
 use Rattle.smv_model_types.proofs.bodies.entries_of.Goals as goal
 
 pub numbered_body-body-requires : goal.numbered_body-body-requires
@@ -14,12 +14,6 @@ numbered_body-body-requires c =
 
 pub loop-k-init : goal.loop-k-init
 loop-k-init c = none_held (map instance_plain c.args.table.now) (entries_seen c.in_ok-entries.entries) c.in_ok-entries.ensures
-
-pub put_body-requires : goal.put_body-requires
-put_body-requires c =
-    let low : c.loop-k.k < length c.args.order.now = omega arith in
-    next_ready (map instance_plain c.args.table.now) c.args.bodies.now c.args.order.now c.loop-k.k c.at.result.now c.numbered_body-body.result.now (entries_seen c.loop-k.entries) c.requires.bodies c.requires.order c.names_settle.ensures
-    c.references_come_before.ensures low c.at.ensures c.numbered_body-body.ensures c.loop-k.invariant
 
 pub loop-k-preserved : goal.loop-k-preserved
 loop-k-preserved c =

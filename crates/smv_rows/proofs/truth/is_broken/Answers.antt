@@ -4,7 +4,7 @@ use Rattle.smv_flat.specs.FlatView.{plain_flat}
 use Rattle.smv_flat.specs.FlatFormulas.{form_plain}
 use Rattle.smv_flat_evaluation.specs.RowValues.{row_values}
 use Rattle.smv_flat_evaluation.specs.FlatSafety.{RowSafe}
-use Rattle.smv_rows.specs.Parts.{parts_plain}
+use Rattle.smv_flat.specs.FlatParts.{parts_plain}
 use Rattle.smv_rows.proofs.SafeInvariants.{invariant_safe}
 use Rattle.smv_rows.proofs.truth.is_broken.Goals as goal
 

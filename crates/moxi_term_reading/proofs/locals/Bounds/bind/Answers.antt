@@ -15,10 +15,10 @@ invariant_of-self-2 c =
     let i : IsStacked names bs lasts = c.in_ok-key.ensures.stacked bs c.self.invariant in
     let b : Binding = record { key = c.in_ok-key.key; before = c.index-before.result.now; sort = c.args.local.now.sort } in
     let place : place_of names c.bytes.result.now ≡ Some c.in_ok-key.key = c.in_ok-key.ensures.key in
-    let number : c.len-count.result ≡ length bs = c.len-count.ensures ∙ ap length (sym c.self.view_is) ∙ locals_long s.names bs in
+    let number : c.len-number.result ≡ length bs = c.len-number.ensures ∙ ap length (sym c.self.view_is) ∙ locals_long s.names bs in
     let pushed : c.push.new.self.items ≡ bs ++ b ∷ [] = c.in_ok-push.ensures.items in
-    subst (λ xs. IsStacked names xs (slice_set lasts c.in_ok-key.key (Some c.len-count.result))) (sym pushed)
-    (stacked_bind names bs lasts i c.bytes.result.now b c.len-count.result place (before_read names bs lasts c.bytes.result.now c.in_ok-key.key c.index-before.result.now i place c.index-before.ensures) number)
+    subst (λ xs. IsStacked names xs (slice_set lasts c.in_ok-key.key (Some c.len-number.result))) (sym pushed)
+    (stacked_bind names bs lasts i c.bytes.result.now b c.len-number.result place (before_read names bs lasts c.bytes.result.now c.in_ok-key.key c.index-before.result.now i place c.index-before.ensures) number)
 
 pub returns : goal.returns
 returns c =

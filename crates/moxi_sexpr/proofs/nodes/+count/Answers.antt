@@ -1,7 +1,7 @@
-use Rattle.std.proofs.Common.{◌≡◌, ◌≤◌, ap, arith}
-use Rattle.moxi_scripts.proofs.Forms.{forms_end, forms_step}
-use Rattle.moxi_declarations.specs.Sizes.{all_nodes}
-use Rattle.moxi_reading.proofs.nodes.+count.Goals as goal
+use Rattle.std.proofs.Common.{ap, arith}
+use Rattle.moxi_sexpr.proofs.Counting.{forms_end, forms_step}
+use Rattle.moxi_sexpr.specs.Tree.{all_nodes}
+use Rattle.moxi_sexpr.proofs.nodes.+count.Goals as goal
 
 pub add_all_nodes-loop-form-preserved : goal.add_all_nodes-loop-form-preserved
 add_all_nodes-loop-form-preserved t c =

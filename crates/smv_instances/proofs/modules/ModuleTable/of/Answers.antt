@@ -1,6 +1,6 @@
 use Rattle.std.proofs.Common.{arith}
 use Rattle.smv_instances.proofs.LastLemmas.{places_more}
-use Rattle.smv_instances.proofs.modules.places_of.Goals as goal
+use Rattle.smv_instances.proofs.modules.ModuleTable.of.Goals as goal
 
 pub loop-k-preserved : goal.loop-k-preserved
 loop-k-preserved c = record {

@@ -1,7 +1,6 @@
 use Rattle.std.proofs.Common.{◌≡◌, ◌+◌, ◌≤◌, ◌^◌, drop, min}
-use Rattle.moxi_sexpr.specs.Tree.{plain_forms}
-use Rattle.moxi_declarations.specs.Sizes.{all_nodes}
-use Rattle.moxi_reading.proofs.nodes.+count.Given as goal
+use Rattle.moxi_sexpr.specs.Tree.{all_nodes, plain_forms}
+use Rattle.moxi_sexpr.proofs.nodes.+count.Given as goal
 
 abbrev pub invariant-add_all_nodes-loop-form : goal.invariant-add_all_nodes-loop-form
 invariant-add_all_nodes-loop-form l = record {

@@ -1,9 +1,9 @@
 -- Lists of which no two elements are the same.
-use Rattle.std.proofs.Common.{◌≡◌, ◌≢◌, ℕ, false, List, [], ◌∷◌, ◌++◌, map}
-use Rattle.std.specs.List.{AllByRecursion}
+use Rattle.std.proofs.Common.{◌≡◌, ◌≢◌, ℕ, zero, suc, false, List, [], ◌∷◌, ◌++◌, map, Some, sym, subst}
+use Rattle.std.specs.List.{slice_get, AllByRecursion}
 use Rattle.std.specs.Str.{bytes_eq}
 use Rattle.std.proofs.lemmas.Slice.Eq.{bytes_eq-Decides}
-use Rattle.name_maps.proofs.FreshNames.{AllDiffer, Lacks, all_front, all_joined}
+use Rattle.name_maps.proofs.FreshNames.{AllDiffer, Lacks, all_made, all_front, all_back, all_joined}
 
 -- ---- what holds of all elements
 
@@ -14,6 +14,15 @@ all_weaker P Q f (x ∷ xs) h = (f x h.0, all_weaker P Q f xs h.1)
 pub all_unmapped : {X Y : Type 0} (P : Y → Type 0) (f : X → Y) (xs : List X) → AllByRecursion P (map f xs) → AllByRecursion (λ x. P (f x)) xs
 all_unmapped P f [] h = tt
 all_unmapped P f (x ∷ xs) h = (h.0, all_unmapped P f xs h.1)
+
+pub all_with : {X : Type 0} (P Q R : X → Type 0) → ((x : X) → P x → Q x → R x) → (xs : List X) → AllByRecursion P xs → AllByRecursion Q xs → AllByRecursion R xs
+all_with P Q R f [] h k = tt
+all_with P Q R f (x ∷ xs) h k = (f x h.0 k.0, all_with P Q R f xs h.1 k.1)
+
+pub holds_at : {X : Type 0} (P : X → Type 0) (xs : List X) (k : ℕ) (x : X) → AllByRecursion P xs → slice_get xs k ≡ Some x → P x
+holds_at P [] k x h e = cc
+holds_at P (y ∷ ys) zero x h e = let same : y ≡ x = cc in subst P same h.0
+holds_at P (y ∷ ys) (suc k) x h e = holds_at P ys k x h.1 e
 
 -- ---- elements that differ
 
@@ -28,6 +37,12 @@ differ_front (x ∷ xs) ys h = (all_front (λ y. y ≢ x) xs ys h.0, differ_fron
 pub differ_back : {X : Type 0} (xs ys : List X) → AllDiffer (xs ++ ys) → AllDiffer ys
 differ_back [] ys h = h
 differ_back (x ∷ xs) ys h = differ_back xs ys h.1
+
+-- the elements behind differ from those in front
+pub differ_across : {X : Type 0} (xs ys : List X) → AllDiffer (xs ++ ys) → AllByRecursion (λ y. Lacks xs y) ys
+differ_across [] ys h = all_made (λ y. Lacks [] y) (λ y. tt) ys
+differ_across (x ∷ xs) ys h =
+    all_with (λ y. y ≢ x) (λ y. Lacks xs y) (λ y. Lacks (x ∷ xs) y) (λ y n l. ((λ e. n (sym e)), l)) ys (all_back (λ y. y ≢ x) xs ys h.0) (differ_across xs ys h.1)
 
 -- where what is made of elements tells them apart
 lacks_mapped : {X Y : Type 0} (P : X → Type 0) (f : X → Y) → ((x y : X) → P x → P y → f x ≡ f y → x ≡ y) → (x : X) (xs : List X) → P x → AllByRecursion P xs → Lacks xs x → Lacks (map f xs) (f x)
@@ -57,6 +72,11 @@ pub within_joined : {X : Type 0} {xs ys us vs : List X} → Within xs ys → Wit
 within_joined none_left w = w
 within_joined {us = us} {vs = vs} (kept x xs ys v) w = kept x (xs ++ us) (ys ++ vs) (within_joined v w)
 within_joined {us = us} {vs = vs} (passed y xs ys v) w = passed y (xs ++ us) (ys ++ vs) (within_joined v w)
+
+pub within_mapped : {X Y : Type 0} (f : X → Y) {xs ys : List X} → Within xs ys → Within (map f xs) (map f ys)
+within_mapped f none_left = none_left
+within_mapped f (kept x xs ys v) = kept (f x) (map f xs) (map f ys) (within_mapped f v)
+within_mapped f (passed y xs ys v) = passed (f y) (map f xs) (map f ys) (within_mapped f v)
 
 pub all_within : {X : Type 0} (P : X → Type 0) {xs ys : List X} → Within xs ys → AllByRecursion P ys → AllByRecursion P xs
 all_within P none_left h = tt
