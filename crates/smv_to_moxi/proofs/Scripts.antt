@@ -1,6 +1,8 @@
 -- The queries of a script and what they reach.
 use Rattle.std.proofs.Common.{◌≡◌, ℕ, zero, suc, ◌+◌, ◌-◌, ◌<◌, ◌^◌, ◌++◌, Bool, true, false, Result, Ok, Err, IfOk, List, [], ◌∷◌, codes, drop, get_or, if◌then◌else◌, length, map, refl, sym, ap, ◌∙◌, arith}
+use Rattle.std.specs.Prelude.{Some, slice_get}
 use Rattle.std.proofs.lemmas.List.{length-map}
+use Rattle.std.proofs.lemmas.Option.{get_or_from_slice_get, slice_get_within}
 use Rattle.smv_items.specs.declared.items.FlatItem.{FlatItem}
 use Rattle.smv_items.specs.FlatItemView.{item_plain}
 use Rattle.smv_flat.specs.declared.forms.Role.{Role}
@@ -9,6 +11,7 @@ use Rattle.smv_flat.specs.declared.forms.FlatFormula.{FlatFormula}
 use Rattle.smv_flat.specs.FlatFormulas.{form_plain}
 use Rattle.smv_flat.specs.FlatTree.{FlatTree}
 use Rattle.smv_flat.specs.FlatView.{plain_flat}
+use Rattle.smv_flat.specs.laws.FlatSteps.{drop_item}
 use Rattle.smv_flat_laws.specs.FlatTruth.{forms_invariants, role_invariant}
 use Rattle.moxi_scripts.specs.declared.script.Formula.{Formula}
 use Rattle.moxi_scripts.specs.declared.script.Query.{Query}
@@ -60,6 +63,14 @@ joined g (z ∷ xs) x ys = ap (λ zs. g z ∷ zs) (joined g xs x ys)
 put : {A : Type 0} (xs : List A) (x : A) (ys : List A) → (xs ++ x ∷ []) ++ ys ≡ xs ++ x ∷ ys
 put [] x ys = refl
 put (z ∷ xs) x ys = ap (λ zs. z ∷ zs) (put xs x ys)
+
+-- one name more is made of the next one in the list
+pub name_on : (g : List ℕ → List ℕ) (xs : List (List ℕ)) (i : ℕ) (x name : List ℕ) (all more total : List (List ℕ)) → slice_get xs i ≡ Some x → more ≡ all ++ name ∷ [] → name ≡ g x → all ++ map g (drop i xs) ≡ total
+    → more ++ map g (drop (i + 1) xs) ≡ total
+name_on g xs i x name all more total h m n k =
+    let d : drop i xs ≡ x ∷ drop (i + 1) xs = drop_item xs i x (slice_get_within xs i x h) (sym (get_or_from_slice_get xs i x x h)) in
+    ap (λ ys. ys ++ map g (drop (i + 1) xs)) m ∙ put all name (map g (drop (i + 1) xs)) ∙ ap (λ y. all ++ y ∷ map g (drop (i + 1) xs)) n
+    ∙ ap (λ ys. all ++ map g ys) (sym d) ∙ k
 
 pub reachable_on : (c : Coding) (xs : List FlatFormula) (i : ℕ) (f : FlatFormula) (all more : List Formula) (x : Formula) (total : List PlainFormula) → drop i xs ≡ f ∷ drop (i + 1) xs → is_invariant f.role ≡ true
     → more ≡ all ++ x ∷ [] → plain_formula x ≡ reachable_of c (length all) (plain_flat f.body) → map plain_formula all ++ reachables_from c (length all) (forms_invariants (map form_plain (drop i xs))) ≡ total
@@ -148,9 +159,6 @@ scope_is old new name constants symbols added o n d h a e =
     ∙ ap (λ x. scope_with (symbols_as (codes "Symbol") x ∷ [])) d
     ∙ ap scope_with (some_symbols symbols h)
 
-pub scope_by : (symbols others : List (List ℕ)) → symbols ≡ others → scope_with (symbol_sort symbols) ≡ scope_with (symbol_sort others)
-scope_by symbols others h = ap (λ x. scope_with (symbol_sort x)) h
-
 pub symbols_are : (new : ScopeState) (symbols : List (List ℕ)) → new ≡ record { enumerations = symbol_sort symbols; sorts = []; functions = [] } → new ≡ symbol_scope symbols
 unfolding symbol_scope
 symbols_are new symbols e = e
@@ -197,14 +205,11 @@ scope_form_is : (symbols : List (List ℕ)) → symbol_scope symbols ≡ scope_w
 unfolding symbol_scope
 scope_form_is symbols = refl
 
-pub under_is : (l : List ℕ) (o : ScopeState) (symbols : List (List ℕ)) (flat : PlainFlat) (w : ℕ) → l ≡ codes "QF_BV" → o ≡ symbol_scope symbols → symbols ≡ flat.symbols → script_under l o flat w ≡ script_form flat w
-under_is l o symbols flat w e h s = under_symbols l o flat w e (h ∙ scope_form_is symbols ∙ scope_by symbols flat.symbols s) ∙ script_is flat w
+pub under_is : (l : List ℕ) (o : ScopeState) (flat : PlainFlat) (w : ℕ) → l ≡ codes "QF_BV" → o ≡ symbol_scope flat.symbols → script_under l o flat w ≡ script_form flat w
+under_is l o flat w e h = under_symbols l o flat w e (h ∙ scope_form_is flat.symbols) ∙ script_is flat w
 
 pub width_is : (flat : PlainFlat) (w v : ℕ) → w ≡ v → script_form flat w ≡ script_form flat v
 width_is flat w v e = ap (script_form flat) e
-
-pub set_is : (items : List FlatItem) (symbols set : List (List ℕ)) (formulas : List FlatFormula) (width : ℕ) → set ≡ symbols → script_form (flat_in items set formulas) width ≡ script_form (flat_in items symbols formulas) width
-set_is items symbols set formulas width e = ap (λ t. script_form (flat_in items t formulas) width) e
 
 -- what is made is the script
 pub made_is : {T : Type 0} (view : T → PlainScript) (r : Result T NoMemory) (x y : PlainScript) → x ≡ y → IfOk r (λ t. view t ≡ x) → IfOk r (λ t. view t ≡ y)

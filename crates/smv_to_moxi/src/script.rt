@@ -1,7 +1,6 @@
 // The script of a flat form.
 ghost use Rattle.moxi_terms.specs.Names.{no_scope};
-ghost use Rattle.std.specs.Prelude.{OnOk, ◌≡◌, ◌<◌, ◌≤◌, ◌^◌, ◌++◌, [], IfOk, length, map, codes, decimal, true};
-ghost use Rattle.name_maps.specs.Names.{are_fresh};
+ghost use Rattle.std.specs.Prelude.{OnOk, ◌≡◌, ◌<◌, ◌≤◌, ◌^◌, ◌++◌, IfOk, length, map, codes, decimal};
 ghost use Rattle.moxi_scripts.specs.Invariant.{IsSpelled};
 ghost use Rattle.moxi_scripts.specs.Script.{plain_check, plain_formula, plain_system};
 ghost use Rattle.moxi_scripts.specs.ScriptView.{plain_script};
@@ -9,6 +8,7 @@ ghost use Rattle.smv_items.specs.FlatItemView.{item_plain};
 ghost use Rattle.smv_flat.specs.FlatFormulas.{form_plain};
 ghost use Rattle.smv_flat.specs.FlatView.{plain_flat};
 ghost use Rattle.smv_flat_laws.specs.FlatTruth.{forms_invariants};
+ghost use Rattle.smv_script.specs.Ranges.{excess, forms_excess};
 ghost use Rattle.smv_script.specs.Script.{coding_of, place_of_item, query_of, queries_from, reachables_from, symbol_sort};
 ghost use Rattle.smv_script_terms.specs.Depths.{depth, forms_depth};
 ghost use Rattle.smv_script_terms.specs.Questions.{codes_of, place_at};
@@ -40,19 +40,19 @@ pub struct SingleScript {
     pub check: Check,
 }
 
-fn constant_names(alloc: Global, symbols: &Names) -> Result<Names, NoMemory>
+fn constant_names(alloc: Global, symbols: &NameSet) -> Result<Names, NoMemory>
     ensures { IfOk result (λ ns. ns ≡ map (λ x. codes "c." ++ x) symbols.now) }
 {
     let mut all = Names::new(alloc);
     for i in 0..symbols.len() {
-        let name = Name::joined(alloc, b"c.", symbols.at(i).bytes())?;
+        let name = Name::joined(alloc, b"c.", symbols.at(i))?;
         all.push(name)?;
     }
     Ok(all)
 }
 
 // Declares the one sort whose constants are the symbols, if there are any.
-fn declare_symbols(alloc: Global, scope: &mut Scope, symbols: &Names) -> Result<(), NoMemory>
+fn declare_symbols(alloc: Global, scope: &mut Scope, symbols: &NameSet) -> Result<(), NoMemory>
     requires nothing { scope.old ≡ no_scope }
     requires symbols { CanBeConstants symbols.now }
     ensures { OnOk result (scope.new ≡ symbol_scope symbols.now) }
@@ -64,19 +64,6 @@ fn declare_symbols(alloc: Global, scope: &mut Scope, symbols: &Names) -> Result<
     let name = Name::of(alloc, b"Symbol")?;
     match scope.add_enumeration(name, constants) {
         Ok(true) => Ok(()),
-        Ok(false) => unreachable!(),
-        Err(e) => Err(e),
-    }
-}
-
-// The symbols, by number.
-fn symbol_set(alloc: Global, symbols: &Names) -> Result<NameSet, NoMemory>
-    requires { are_fresh [] symbols.now ≡ true }
-    ensures { IfOk result (λ s. s ≡ symbols.now) }
-{
-    let mut set = NameSet::new(alloc);
-    match set.declare_all(alloc, symbols) {
-        Ok(true) => Ok(set),
         Ok(false) => unreachable!(),
         Err(e) => Err(e),
     }
@@ -152,7 +139,8 @@ fn reachable_of(
     j: usize,
     form: &FlatFormula,
 ) -> Result<Formula, NoMemory>
-    requires { depth 0 (plain_flat form.now.body) < 2 ^ 32 }
+    requires deep { depth 0 (plain_flat form.now.body) < 2 ^ 32 }
+    requires in_range { excess (plain_flat form.now.body) ≡ 0 }
     ensures { IfOk result (λ f. plain_formula f ≡ reachable_of (codes_of coding.now) j (plain_flat form.now.body)) }
 {
     let name = numbered(alloc, b"r.", j)?;
@@ -177,7 +165,8 @@ fn reachables_of(
     coding: &Coding,
     formulas: &[FlatFormula],
 ) -> Result<Formulas, NoMemory>
-    requires { forms_depth (map form_plain formulas.now) < 2 ^ 32 }
+    requires deep { forms_depth (map form_plain formulas.now) < 2 ^ 32 }
+    requires in_range { forms_excess (map form_plain formulas.now) ≡ 0 }
     ensures { IfOk result (λ fs. map plain_formula fs ≡ reachables_from (codes_of coding.now) 0 (forms_invariants (map form_plain formulas.now))) }
 {
     let mut all = Formulas::new(alloc);
@@ -368,16 +357,14 @@ fn coded_single<'f>(
     alloc: Global,
     coding: &Coding,
     flat: &FlatParts<'f>,
-    symbols: &Names,
     scope: &mut Scope,
 ) -> Result<SingleScript, NoMemory>
     requires nothing { scope.old ≡ no_scope }
-    requires symbols { CanBeConstants symbols.now }
-    requires same { symbols.now ≡ flat.now.symbols.now }
+    requires symbols { CanBeConstants flat.now.symbols.now }
     requires coding { codes_of coding.now ≡ coding_of (plain_parts flat.now) coding.now.width }
     ensures { IfOk result (λ s. plain_single s ≡ script_form (plain_parts flat.now) coding.now.width) }
 {
-    declare_symbols(alloc, scope, symbols)?;
+    declare_symbols(alloc, scope, flat.symbols)?;
     let logic = logic_of(alloc)?;
     single_of_scope(alloc, coding, flat, logic, scope)
 }
@@ -387,18 +374,16 @@ fn single_from<'f>(
     alloc: Global,
     width: u32,
     flat: &FlatParts<'f>,
-    symbols: &Names,
     scope: &mut Scope,
 ) -> Result<SingleScript, NoMemory>
     requires nothing { scope.old ≡ no_scope }
-    requires symbols { CanBeConstants symbols.now }
-    requires same { symbols.now ≡ flat.now.symbols.now }
+    requires symbols { CanBeConstants flat.now.symbols.now }
     requires some { 1 ≤ width }
     requires low { width ≤ 64 }
     ensures { IfOk result (λ s. plain_single s ≡ script_form (plain_parts flat.now) width) }
 {
     let coding = coding_of(alloc, width, flat.items)?;
-    coded_single(alloc, &coding, flat, symbols, scope)
+    coded_single(alloc, &coding, flat, scope)
 }
 
 /// Returns the script of a flat form with these items, symbols and formulas, whose integers have this width.
@@ -408,7 +393,7 @@ pub(crate) fn single_in(
     alloc: Global,
     width: u32,
     items: &[FlatItem],
-    symbols: &Names,
+    symbols: &NameSet,
     formulas: &[FlatFormula],
     scope: &mut Scope,
 ) -> Result<SingleScript, NoMemory>
@@ -416,15 +401,15 @@ pub(crate) fn single_in(
     requires few { length items.now < 2 ^ 30 }
     requires symbols { CanBeConstants symbols.now }
     requires deep { forms_depth (map form_plain formulas.now) < 2 ^ 32 }
+    requires in_range { forms_excess (map form_plain formulas.now) ≡ 0 }
     requires some { 1 ≤ width }
     requires low { width ≤ 64 }
     ensures { IfOk result (λ s. plain_single s ≡ script_form (flat_in items.now symbols.now formulas.now) width) }
 {
-    let set = symbol_set(alloc, symbols)?;
     let flat = FlatParts {
         items,
-        symbols: &set,
+        symbols,
         formulas,
     };
-    single_from(alloc, width, &flat, symbols, scope)
+    single_from(alloc, width, &flat, scope)
 }

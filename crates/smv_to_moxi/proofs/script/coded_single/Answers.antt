@@ -11,5 +11,5 @@ pub returns : goal.returns
 returns c =
     made_is plain_single c.single_of_scope.result (script_under c.in_ok-logic.logic c.declare_symbols.new.scope (plain_parts c.args.flat.now) c.args.coding.now.width)
     (script_form (plain_parts c.args.flat.now) c.args.coding.now.width)
-    (under_is c.in_ok-logic.logic c.declare_symbols.new.scope c.args.symbols.now (plain_parts c.args.flat.now) c.args.coding.now.width c.in_ok-logic.ensures c.in_ok-declare_symbols.ensures c.requires.same)
+    (under_is c.in_ok-logic.logic c.declare_symbols.new.scope (plain_parts c.args.flat.now) c.args.coding.now.width c.in_ok-logic.ensures c.in_ok-declare_symbols.ensures)
     c.single_of_scope.ensures

@@ -8,7 +8,6 @@ pub coded_single-requires : goal.coded_single-requires
 coded_single-requires c = record {
   nothing = c.requires.nothing;
   symbols = c.requires.symbols;
-  same = c.requires.same;
   coding = coding_is c.in_ok-coding.coding.places.items c.in_ok-coding.coding.width c.args.flat.now.items.now c.args.flat.now.symbols.now c.args.flat.now.formulas.now c.in_ok-coding.ensures.places;
 }
 
