@@ -5,7 +5,7 @@ use Rattle.std.proofs.lemmas.Slice.Eq.{bytes_eq-Decides}
 use Rattle.smv_text.specs.declared.tree.VarKind.{VarKind}
 use Rattle.smv_text.specs.declared.tree.Member.{Member}
 use Rattle.smv_text.specs.declared.tree.Member.TheVariants as OfMember
-use Rattle.smv_text.specs.Tree.{name, PlainDomain, boolean, members, between, bits, instance, PlainItem, PlainElement, vars, defines, constants, assigns, init, trans, invar, spec}
+use Rattle.smv_text.specs.Tree.{PlainDomain, boolean, members, between, bits, instance, PlainItem, PlainElement, vars, defines, constants, assigns, init, trans, invar, spec}
 use Rattle.smv_meaning.specs.Instances.{Instance}
 use Rattle.smv_meaning.specs.Names.{Local, variable_of, of_domain, among_items, among_elements, parent_of, local_in, local, has_symbol, instance_has, element_has, item_has, domain_has, is_symbol}
 use Rattle.name_maps.specs.Names.{place_of}

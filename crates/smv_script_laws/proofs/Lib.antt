@@ -65,6 +65,7 @@ pub mod SortLaws
 pub mod PrintedForms
 pub mod WholeParts
 pub mod WholeScripts
+pub mod Ranges
 pub mod Spellable
 pub mod SpellableTerms
 pub mod SpellableNames

@@ -10,6 +10,7 @@ use Rattle.digraph.specs.Graph.{is_in}
 use Rattle.digraph.proofs.Sorting.{never_returns}
 use Rattle.text_core.specs.declared.place.Place.{Place}
 use Rattle.smv_text.specs.declared.token.Token.{Token}
+use Rattle.smv_text.specs.Lexing.{Lexes}
 use Rattle.smv_text.specs.declared.tree.When.TheVariants.{Always, First, Following}
 use Rattle.smv_text.specs.Tree.{PlainSource}
 use Rattle.smv_text.specs.Sources.{SpellsSource}
@@ -53,7 +54,7 @@ use Rattle.smv_script_laws.proofs.Constants.{constant_of, constants_apart}
 use Rattle.smv_script_laws.proofs.Sorts.{variables_sorts}
 use Rattle.smv_script_laws.proofs.SortLaws.{width_some}
 use Rattle.smv_script_laws.specs.ValidLaws.{ScriptsAreValid}
-use Rattle.smv_script_laws.proofs.PrintedForms.{AreTyped, IsRole, items_typed, forms_roles}
+use Rattle.smv_script_laws.proofs.PrintedForms.{AreRoles, AreTyped, IsRole, items_typed, forms_roles}
 use Rattle.smv_script_laws.proofs.WholeParts.{IsReady, formula_stands, reachables_formulas, forms_low, both_all}
 use Rattle.name_maps.proofs.FreshNames.{AllDiffer, Lacks, all_fresh, all_made, all_mapped}
 
@@ -231,10 +232,14 @@ few_invariants source end xs spelled needed accepted =
     let l = queries_long 0 (forms_invariants (flat_smv source).forms) in
     omega (arith, w, n, l)
 
-pub scripts_are_valid_law : ScriptsAreValid
-scripts_are_valid_law source end text xs lexed spelled needed accepted =
+-- what is known of the items and the formulas
+pub record ModelTyped (source : PlainSource) : Type 0 where
+  pub items : AreTyped (instances_of source) (origins_of (instances_of source))
+  pub roles : AreRoles (instances_of source) (forms_of (instances_of source))
+
+pub model_typed : (source : PlainSource) (end : Place) (text : List ℕ) (xs : List Token) → Lexes text xs → SpellsSource source end xs → (needed : ℕ) → IsAccepted source needed → ModelTyped source
+model_typed source end text xs lexed spelled needed accepted =
     let t = instances_of source in
-    let w = width_of (flat_smv source) in
     let checked = accepted_is_checked_law source needed accepted in
     let ac = acyclic t checked in
     let fresh = names_differ_law source end text xs lexed spelled needed accepted in
@@ -243,15 +248,25 @@ scripts_are_valid_law source end text xs lexed spelled needed accepted =
     let c = checked_at t checked words in
     let typed : AllTyped t = all_typed t ac (all_given t c) in
     let each = checked_from t c operators in
-    let small = width_is_small_law source end xs spelled needed accepted in
-    let some = width_some source in
-    let most : w ≤ WIDEST = omega (arith, small) in
     let a = split (module_checks source ++ declaration_checks source.modules t 0 1 t ++ size_checks source ++ later_checks t) _ accepted in
     let b = split (module_checks source ++ declaration_checks source.modules t 0 1 t ++ size_checks source) (later_checks t) a.0 in
     let d = split (path_checks_of t ++ cycle_checks_of t ++ type_checks_of t) (assignment_checks (found_in t) t) b.1 in
     let targets = all_assignable [] (over_instances (assigned_here t) 0 t) d.1 in
-    let items = items_typed t ac fresh typed 0 t each in
-    let roles = forms_roles t ac fresh typed 0 0 t each (λ n m e. subst (λ j. slice_get (origins_of t) j ≡ Some m) (let s : n ≡ 0 + n = omega arith in s) e) targets in
+    record {
+      items = items_typed t ac fresh typed 0 t each;
+      roles = forms_roles t ac fresh typed 0 0 t each (λ n m e. subst (λ j. slice_get (origins_of t) j ≡ Some m) (let s : n ≡ 0 + n = omega arith in s) e) targets;
+    }
+
+pub scripts_are_valid_law : ScriptsAreValid
+scripts_are_valid_law source end text xs lexed spelled needed accepted =
+    let t = instances_of source in
+    let w = width_of (flat_smv source) in
+    let ac = acyclic t (accepted_is_checked_law source needed accepted) in
+    let fresh = names_differ_law source end text xs lexed spelled needed accepted in
+    let small = width_is_small_law source end xs spelled needed accepted in
+    let some = width_some source in
+    let most : w ≤ WIDEST = omega (arith, small) in
+    let typed = model_typed source end text xs lexed spelled needed accepted in
     let low = forms_low w (forms_of t) (omega arith) in
     let few = few_invariants source end xs spelled needed accepted in
-    whole_script t w some most ac fresh items (both_all (λ (f : Form). IsRole t f.role f.body) (λ (f : Form). tree_width f.body ≤ w) (forms_of t) roles low) (omega (arith, few))
+    whole_script t w some most ac fresh typed.items (both_all (λ (f : Form). IsRole t f.role f.body) (λ (f : Form). tree_width f.body ≤ w) (forms_of t) typed.roles low) (omega (arith, few))

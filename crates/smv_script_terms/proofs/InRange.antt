@@ -1,12 +1,11 @@
 -- The numbers of an expression's parts are in range where those of the expression are.
-use Rattle.std.proofs.Common.{◌≡◌, ℕ, zero, suc, ◌+◌, ◌≤◌, ◌<◌, ◌++◌, get_or, List, [], ◌∷◌, drop, length, map, subst, sym, ap, ◌∙◌, arith}
-use Rattle.smv_text.specs.declared.operators.Infix.{Infix}
+use Rattle.std.proofs.Common.{◌≡◌, ℕ, zero, suc, ◌+◌, ◌≤◌, ◌<◌, ◌++◌, get_or, List, [], ◌∷◌, length, map, subst, sym, ap, ◌∙◌, arith}
 use Rattle.smv_flat.specs.declared.expressions.FlatExpr.{FlatExpr}
 use Rattle.smv_flat.specs.declared.expressions.FlatLink.{FlatLink}
 use Rattle.smv_flat.specs.declared.expressions.FlatBranch.{FlatBranch}
 use Rattle.smv_flat.specs.declared.forms.FlatFormula.{FlatFormula}
 use Rattle.smv_flat.specs.FlatFormulas.{form_plain}
-use Rattle.smv_flat.specs.FlatTree.{FlatTree, flat_links_of, flat_branches_of, flat_trees_of}
+use Rattle.smv_flat.specs.FlatTree.{flat_links_of, flat_branches_of, flat_trees_of}
 use Rattle.smv_flat.specs.FlatView.{plain_flat, plain_flat_link, plain_flat_branch}
 use Rattle.smv_script.specs.Operators.{front_width}
 use Rattle.smv_script.specs.Ranges.{excess, links_excess, branches_excess, trees_excess, fronts_excess, forms_excess, joined_excess, shift_excess}
