@@ -20,7 +20,8 @@ use Rattle.moxi_scripts.specs.Script.{PlainCheck, PlainFormula, PlainScript, Pla
 use Rattle.smv_flat.specs.FlatForms.{PlainFlat}
 use Rattle.smv_script.specs.Terms.{Coding}
 use Rattle.smv_script.specs.Script.{check_of, coding_of, place_of_item, queries_from, query_of, reachables_from, script_of, symbol_sort, system_of}
-use Rattle.smv_script_terms.specs.FlatParts.{flat_in}
+use Rattle.smv_flat.specs.declared.parts.FlatParts.{FlatParts}
+use Rattle.smv_flat.specs.FlatParts.{parts_plain}
 use Rattle.smv_to_moxi.specs.Symbols.{CanBeConstants}
 use Rattle.smv_to_moxi.specs.Assembling.{symbol_scope, check_form, is_invariant, reachable_of, script_form, script_under, script_with, system_form}
 
@@ -99,9 +100,9 @@ script_same l m o p s t c d a b e f =
 abbrev pub coding_with : ℕ → (ℕ → ℕ) → Coding
 coding_with width place = record { width = width; place = place }
 
-pub coding_is : (places : List ℕ) (width : ℕ) (items : List FlatItem) (symbols : List (List ℕ)) (formulas : List FlatFormula) → (λ k. get_or places k 0) ≡ place_of_item (map item_plain items)
-    → coding_with width (λ k. get_or places k 0) ≡ coding_of (flat_in items symbols formulas) width
-coding_is places width items symbols formulas h = ap (coding_with width) h
+pub coding_is : (places : List ℕ) (width : ℕ) (parts : FlatParts) → (λ k. get_or places k 0) ≡ place_of_item (map item_plain parts.items.now)
+    → coding_with width (λ k. get_or places k 0) ≡ coding_of (parts_plain parts) width
+coding_is places width parts h = ap (coding_with width) h
 
 abbrev scope_with : List Enumeration → ScopeState
 scope_with es = record { enumerations = es; sorts = []; functions = [] }
@@ -147,9 +148,6 @@ scope_is old new name constants symbols added o n d h a e =
     ∙ ap (λ x. scope_with (symbols_as x constants ∷ [])) n
     ∙ ap (λ x. scope_with (symbols_as (codes "Symbol") x ∷ [])) d
     ∙ ap scope_with (some_symbols symbols h)
-
-pub scope_by : (symbols others : List (List ℕ)) → symbols ≡ others → scope_with (symbol_sort symbols) ≡ scope_with (symbol_sort others)
-scope_by symbols others h = ap (λ x. scope_with (symbol_sort x)) h
 
 pub symbols_are : (new : ScopeState) (symbols : List (List ℕ)) → new ≡ record { enumerations = symbol_sort symbols; sorts = []; functions = [] } → new ≡ symbol_scope symbols
 unfolding symbol_scope
@@ -197,14 +195,11 @@ scope_form_is : (symbols : List (List ℕ)) → symbol_scope symbols ≡ scope_w
 unfolding symbol_scope
 scope_form_is symbols = refl
 
-pub under_is : (l : List ℕ) (o : ScopeState) (symbols : List (List ℕ)) (flat : PlainFlat) (w : ℕ) → l ≡ codes "QF_BV" → o ≡ symbol_scope symbols → symbols ≡ flat.symbols → script_under l o flat w ≡ script_form flat w
-under_is l o symbols flat w e h s = under_symbols l o flat w e (h ∙ scope_form_is symbols ∙ scope_by symbols flat.symbols s) ∙ script_is flat w
+pub under_is : (l : List ℕ) (o : ScopeState) (flat : PlainFlat) (w : ℕ) → l ≡ codes "QF_BV" → o ≡ symbol_scope flat.symbols → script_under l o flat w ≡ script_form flat w
+under_is l o flat w e h = under_symbols l o flat w e (h ∙ scope_form_is flat.symbols) ∙ script_is flat w
 
 pub width_is : (flat : PlainFlat) (w v : ℕ) → w ≡ v → script_form flat w ≡ script_form flat v
 width_is flat w v e = ap (script_form flat) e
-
-pub set_is : (items : List FlatItem) (symbols set : List (List ℕ)) (formulas : List FlatFormula) (width : ℕ) → set ≡ symbols → script_form (flat_in items set formulas) width ≡ script_form (flat_in items symbols formulas) width
-set_is items symbols set formulas width e = ap (λ t. script_form (flat_in items t formulas) width) e
 
 -- what is made is the script
 pub made_is : {T : Type 0} (view : T → PlainScript) (r : Result T NoMemory) (x y : PlainScript) → x ≡ y → IfOk r (λ t. view t ≡ x) → IfOk r (λ t. view t ≡ y)

@@ -1,4 +1,4 @@
--- The items and symbols of an accepted model are few, and its symbols differ.
+-- The items and symbols of an accepted model are few, and its symbols can be constants.
 use Rattle.std.proofs.Common.{◌≡◌, ℕ, ◌≤◌, ◌<◌, ◌^◌, ◌&&◌, ◌||◌, Bool, true, false, not, List, [], ◌∷◌, codes, length, map, refl, sym, ap, ◌∙◌, subst, arith}
 use Rattle.std.specs.List.{list_any}
 use Rattle.std.proofs.Math.Bool.{Bool-set}
@@ -15,7 +15,6 @@ use Rattle.smv_items.specs.FlatItemView.{item_plain}
 use Rattle.smv_flat.specs.FlatForms.{PlainFlat, flat_smv}
 use Rattle.smv_flat.specs.FlatFormulas.{form_plain}
 use Rattle.smv_flatten.specs.FlatModel.{FlatModel, IsOfModel}
-use Rattle.smv_accepted.proofs.Symbols.{symbols_differ_law}
 use Rattle.smv_script_laws.proofs.Constants.{constant_of, constants_apart}
 use Rattle.smv_script_laws.proofs.Limits.{items_are_few, symbols_are_few}
 use Rattle.smv_script_terms.specs.Depths.{forms_depth}
@@ -38,7 +37,6 @@ two_true false b h k = k
 constants_can : (t : List Instance) → length (symbols_of t) < 2 ^ 32 → CanBeConstants (symbols_of t)
 constants_can t h = record {
   few = h;
-  differ = symbols_differ_law t;
   free = two_true (list_any (is_term_name no_scope) (map constant_of (symbols_of t))) (are_fresh [] (map constant_of (symbols_of t)))
       (constants_free (symbols_of t)) (all_fresh (map constant_of (symbols_of t)) (constants_apart t));
 }
@@ -70,7 +68,6 @@ is_small_model f t = record {
   items = ∥∥₁_elim t le_prop (λ (m : IsOfModel f). (small_model f m).items);
   symbols = record {
     few = ∥∥₁_elim t le_prop (λ (m : IsOfModel f). (small_model f m).symbols.few);
-    differ = ∥∥₁_elim t (Bool-set (are_fresh [] f.symbols) true) (λ (m : IsOfModel f). (small_model f m).symbols.differ);
     free = ∥∥₁_elim t (Bool-set (may_be_enumeration no_scope (codes "Symbol") (map constant_of f.symbols)) true) (λ (m : IsOfModel f). (small_model f m).symbols.free);
   };
   deep = ∥∥₁_elim t le_prop (λ (m : IsOfModel f). (small_model f m).deep);

@@ -17,7 +17,7 @@ use smv_flatten::{Flat, FlatItem, ItemKind};
 use smv_intervals::Ty;
 use smv_meaning::{Given, Run, State, States, Value};
 use std::alloc::Global;
-use text_core::NoMemory;
+use text_core::{Name, NoMemory};
 
 // The part of a step that is read: the state, or the label of the transition to the next one.
 #[derive(Clone, Copy)]
@@ -65,7 +65,7 @@ fn value_of(alloc: Global, flat: &Flat, ty: Ty, datum: Datum) -> Result<Value, N
             Ok(Value::Integer(signed_value(flat.width(), word.bits())))
         }
         (Ty::Symbol, Datum::Constant(_, i)) => {
-            let symbol = flat.symbols().at(i as usize).duplicate(alloc)?;
+            let symbol = Name::of(alloc, flat.symbols().at(i as usize))?;
             Ok(Value::Symbol(symbol))
         }
         (Ty::Bits(_), Datum::Bits(word)) => Ok(Value::Bits(word)),

@@ -1,23 +1,17 @@
-use Rattle.std.proofs.Common.{sym}
-use Rattle.smv_script_terms.specs.FlatParts.{flat_in}
+use Rattle.smv_flat.specs.FlatParts.{parts_plain}
 use Rattle.smv_to_moxi.specs.Assembling.{script_form}
 use Rattle.smv_to_moxi.specs.SingleView.{plain_single}
-use Rattle.smv_to_moxi.proofs.Scripts.{made_is, set_is}
+use Rattle.smv_to_moxi.proofs.Scripts.{coding_is, made_is, width_is}
 use Rattle.smv_to_moxi.proofs.script.single_in.Goals as goal
 
-pub symbol_set-requires : goal.symbol_set-requires
-symbol_set-requires c = c.requires.symbols.differ
-
-pub single_from-requires : goal.single_from-requires
-single_from-requires c = record {
+pub coded_single-requires : goal.coded_single-requires
+coded_single-requires c = record {
   nothing = c.requires.nothing;
   symbols = c.requires.symbols;
-  same = sym c.in_ok-set.ensures;
-  some = c.requires.some;
-  low = c.requires.low;
+  coding = coding_is c.in_ok-coding.coding.places.items c.in_ok-coding.coding.width c.args.parts c.in_ok-coding.ensures.places;
 }
 
 pub returns : goal.returns
 returns c =
-    made_is plain_single c.single_from.result (script_form (flat_in c.args.items.now c.in_ok-set.set c.args.formulas.now) c.args.width) (script_form (flat_in c.args.items.now c.args.symbols.now c.args.formulas.now) c.args.width)
-    (set_is c.args.items.now c.args.symbols.now c.in_ok-set.set c.args.formulas.now c.args.width c.in_ok-set.ensures) c.single_from.ensures
+    made_is plain_single c.coded_single.result (script_form (parts_plain c.args.parts) c.in_ok-coding.coding.width) (script_form (parts_plain c.args.parts) c.args.width)
+    (width_is (parts_plain c.args.parts) c.in_ok-coding.coding.width c.args.width c.in_ok-coding.ensures.width) c.coded_single.ensures
