@@ -1,5 +1,5 @@
 -- What is known of the systems of a script, though its cause isn't, since it can be tested.
-use Rattle.std.proofs.Common.{◌≡◌, ℕ, zero, suc, ◌+◌, ◌<◌, ◌≤◌, List, [], ◌∷◌, ◌++◌, drop, drop-cons, add-one, append_assoc, length, refl, sym, ap, ◌∙◌, subst, arith}
+use Rattle.std.proofs.Common.{◌≡◌, ℕ, zero, suc, ◌<◌, ◌≤◌, List, [], ◌∷◌, ◌++◌, drop, length, refl, sym, ap, ◌∙◌, subst, arith}
 use Rattle.std.specs.Prelude.{slice_index_or}
 use Rattle.std.specs.List.{AllByRecursion}
 use Rattle.std.proofs.Math.Logic.{∥∥₁_map}
@@ -7,7 +7,7 @@ use Rattle.moxi_terms.specs.declared.term.Variable.{Variable}
 use Rattle.moxi_scripts.specs.declared.script.Subsystem.{Subsystem}
 use Rattle.moxi_scripts.specs.Script.{PlainSystem, system_at}
 use Rattle.moxi_flat.specs.Systems.{nesting_upto}
-use Rattle.moxi_flat.specs.FlatSystem.{locals_each, locals_upto, named_inside, path_inside}
+use Rattle.moxi_flat.specs.FlatSystem.{locals_each, locals_upto}
 use Rattle.moxi_flat.proofs.Enough.{is_enough}
 use Rattle.moxi_flat.proofs.Nesting.{nests}
 use Rattle.moxi_instantiate.specs.Amounts.{AreRanked}
@@ -40,20 +40,6 @@ pub sub_at : (P : Subsystem → Type 0) (bs : List Subsystem) (k : ℕ) (b : Sub
 sub_at P [] k b h l e = absurd (omega arith)
 sub_at P (x ∷ xs) zero b h l e = subst P (sym e) h.0
 sub_at P (x ∷ xs) (suc k) b h l e = sub_at P xs k b h.1 (omega arith) e
-
--- the subsystem at a place comes next
-pub locals_on : (ss : List PlainSystem) (within : List ℕ → ℕ → List Variable) (path : List ℕ) (bs : List Subsystem) (k : ℕ) (b : Subsystem) (all more : List Variable) (end : List Variable)
-    → k < length bs → b ≡ slice_index_or bs k b → more ≡ all ++ (named_inside (path_inside path b) (system_at ss b.system).locals ++ within (path_inside path b) b.system)
-    → all ++ locals_each ss within path (drop k bs) ≡ end → more ++ locals_each ss within path (drop (k + 1) bs) ≡ end
-locals_on ss within path bs k b all more end l e grown before =
-    let own = named_inside (path_inside path b) (system_at ss b.system).locals in
-    let inner = within (path_inside path b) b.system in
-    ap (λ j. more ++ locals_each ss within path (drop j bs)) (add-one k)
-    ∙ ap (λ vs. vs ++ locals_each ss within path (drop (suc k) bs)) grown
-    ∙ append_assoc all (own ++ inner) (locals_each ss within path (drop (suc k) bs))
-    ∙ ap (λ vs. all ++ vs) (append_assoc own inner (locals_each ss within path (drop (suc k) bs)))
-    ∙ sym (ap (λ xs. all ++ locals_each ss within path xs) (drop-cons bs k b l ∙ ap (λ x. x ∷ drop (suc k) bs) (sym e)))
-    ∙ before
 
 pub locals_whole : (ss : List PlainSystem) → ∥ AreRanked ss ∥₁ → (path : List ℕ) (i : ℕ) → i < length ss
     → locals_each ss (locals_upto ss (length ss)) path (system_at ss i).subsystems ≡ locals_upto ss (length ss) path i

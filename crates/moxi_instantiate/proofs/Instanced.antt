@@ -1,10 +1,10 @@
 -- The parts of one subsystem after another.
-use Rattle.std.proofs.Common.{◌≡◌, ℕ, suc, ◌+◌, ◌<◌, ◌≤◌, List, [], ◌∷◌, ◌++◌, drop, drop-cons, add-one, append_assoc, length, refl, sym, ap, ◌∙◌, arith}
+use Rattle.std.proofs.Common.{◌≡◌, ℕ, suc, ◌+◌, ◌<◌, ◌≤◌, List, [], ◌∷◌, ◌++◌, drop, drop-cons, add-one, length, refl, sym, ap, ◌∙◌, arith}
 use Rattle.std.specs.Prelude.{slice_index_or, sum_by, Result, Ok, Err, OnOk}
 use Rattle.std.proofs.lemmas.List.Sums.{sum_by-cons}
 use Rattle.moxi_scripts.specs.declared.script.Subsystem.{Subsystem}
-use Rattle.moxi_scripts.specs.Script.{PlainSystem, system_at}
-use Rattle.moxi_flat.specs.FlatSystem.{PlainPart, parts_each, place_inside}
+use Rattle.moxi_scripts.specs.Script.{PlainSystem}
+use Rattle.moxi_flat.specs.FlatSystem.{PlainPart, parts_each}
 use Rattle.moxi_instantiate.proofs.Held.{drop_past}
 
 -- what is counted of the subsystems from a place on
@@ -12,29 +12,9 @@ sums_at : (f : Subsystem → ℕ) (bs : List Subsystem) (k : ℕ) (b : Subsystem
 sums_at f bs k b l e =
     ap (sum_by f) (drop-cons bs k b l ∙ ap (λ x. x ∷ drop (suc k) bs) (sym e)) ∙ sum_by-cons f b (drop (suc k) bs) ∙ ap (λ j. f b + sum_by f (drop j bs)) (sym (add-one k))
 
-pub sums_on : (f : Subsystem → ℕ) (bs : List Subsystem) (k : ℕ) (b : Subsystem) (next more total : ℕ) → k < length bs → b ≡ slice_index_or bs k b → more ≡ next + f b
-    → next + sum_by f (drop k bs) ≡ total → more + sum_by f (drop (k + 1) bs) ≡ total
-sums_on f bs k b next more total l e grown before = let s = sums_at f bs k b l e in omega (arith, s, grown, before)
-
 pub room_at : (f : Subsystem → ℕ) (bs : List Subsystem) (k : ℕ) (b : Subsystem) (next total limit : ℕ) → k < length bs → b ≡ slice_index_or bs k b
     → next + sum_by f (drop k bs) ≡ total → total < limit → next + f b < limit
 room_at f bs k b next total limit l e before low = let s = sums_at f bs k b l e in omega (arith, s, before, low)
-
--- the subsystem at a place comes next
-pub parts_on : (ss : List PlainSystem) (count : ℕ → ℕ) (parts : (ℕ → ℕ) → ℕ → ℕ → List PlainPart) (place : ℕ → ℕ) (bs : List Subsystem) (k : ℕ) (b : Subsystem) (next after : ℕ) (all more end : List PlainPart)
-    → k < length bs → b ≡ slice_index_or bs k b → after ≡ next + (length (system_at ss b.system).locals + count b.system)
-    → more ≡ all ++ parts (place_inside place b.actuals next) (next + length (system_at ss b.system).locals) b.system
-    → all ++ parts_each ss count parts place next (drop k bs) ≡ end → more ++ parts_each ss count parts place after (drop (k + 1) bs) ≡ end
-parts_on ss count parts place bs k b next after all more end l e counted grown before =
-    let locals = length (system_at ss b.system).locals in
-    let own = parts (place_inside place b.actuals next) (next + locals) b.system in
-    let behind : after ≡ next + locals + count b.system = omega (arith, counted) in
-    ap (λ j. more ++ parts_each ss count parts place after (drop j bs)) (add-one k)
-    ∙ ap (λ n. more ++ parts_each ss count parts place n (drop (suc k) bs)) behind
-    ∙ ap (λ ps. ps ++ parts_each ss count parts place (next + locals + count b.system) (drop (suc k) bs)) grown
-    ∙ append_assoc all own (parts_each ss count parts place (next + locals + count b.system) (drop (suc k) bs))
-    ∙ sym (ap (λ xs. all ++ parts_each ss count parts place next xs) (drop-cons bs k b l ∙ ap (λ x. x ∷ drop (suc k) bs) (sym e)))
-    ∙ before
 
 append_nothing : (ps : List PlainPart) → ps ++ [] ≡ ps
 append_nothing [] = refl

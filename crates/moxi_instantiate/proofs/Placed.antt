@@ -38,15 +38,10 @@ placed_on place actuals fresh x inside more grown own before v h =
 pub one_place : (xs ys : List ℕ) (x k : ℕ) → ys ≡ xs ++ x ∷ [] → length xs ≡ k → length ys ≡ k + 1
 one_place xs ys x k e h = let n : length ys ≡ length xs + 1 = ap length e ∙ length-append xs (x ∷ []) in omega (arith, n, h)
 
-in_actuals : (actuals : List ℕ) (k a d : ℕ) → k < length actuals → a ≡ slice_index_or actuals k d → a ≡ slice_index_or actuals k 0
-in_actuals [] k a d l e = absurd (omega (arith, l))
-in_actuals (x ∷ xs) zero a d l e = e
-in_actuals (x ∷ xs) (suc k) a d l e = in_actuals xs k a d (omega (arith, l)) e
-
-pub actual_placed : (place : ℕ → ℕ) (actuals : List ℕ) (fresh k a x n : ℕ) → n ≡ k → k < length actuals → a ≡ slice_index_or actuals k a → x ≡ place a → x ≡ place_inside place actuals fresh n
-actual_placed place actuals fresh k a x n same l e own =
+pub actual_placed : (place : ℕ → ℕ) (actuals : List ℕ) (fresh k x n : ℕ) → n ≡ k → k < length actuals → x ≡ place (slice_index_or actuals k 0) → x ≡ place_inside place actuals fresh n
+actual_placed place actuals fresh k x n same l own =
     let test : nat_lt n (length actuals) ≡ true = grind (arith, nat_tests, same, l) in
-    own ∙ ap place (in_actuals actuals k a a l e ∙ ap (λ j. slice_index_or actuals j 0) (sym same)) ∙ sym (ap (λ b. cond b (place (slice_index_or actuals n 0)) (fresh + (n - length actuals))) test)
+    own ∙ ap (λ j. place (slice_index_or actuals j 0)) (sym same) ∙ sym (ap (λ b. cond b (place (slice_index_or actuals n 0)) (fresh + (n - length actuals))) test)
 
 pub local_placed : (place : ℕ → ℕ) (actuals : List ℕ) (fresh k x n : ℕ) → n ≡ length actuals + k → x ≡ fresh + k → x ≡ place_inside place actuals fresh n
 local_placed place actuals fresh k x n same own =

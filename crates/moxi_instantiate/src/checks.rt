@@ -26,8 +26,8 @@ fn formula_sizes(alloc: Global, sizes: &[u64], formulas: &[Formula]) -> Result<V
     ensures { IfOk result (λ counts. counts.items ≡ map (λ f. capped (term_size (known sizes.now) (plain f.term))) formulas.now) }
 {
     let mut counts = Vec::new(alloc);
-    for k in 0..formulas.len() {
-        let size = term_size(sizes, &formulas[k].term);
+    for formula in formulas {
+        let size = term_size(sizes, &formula.term);
         put(&mut counts, size)?;
     }
     Ok(counts)
@@ -102,8 +102,8 @@ fn mark_all(marks: &mut Vec<bool>, numbers: &[u64])
     ensures long { length marks.new.items ≡ length marks.old.items }
     ensures marked { (named : List ℕ) → AreMarked marks.old.items named → AreMarked marks.new.items (named ++ numbers.now) }
 {
-    for k in 0..numbers.len() {
-        mark(marks, numbers[k]);
+    for number in numbers {
+        mark(marks, *number);
     }
 }
 
@@ -118,8 +118,8 @@ fn marks_of(
     ensures marked { IfOk result (λ marks. AreMarked marks.items (all_numbers kind queries.now)) }
 {
     let mut marks = vec![in alloc; false; count]?;
-    for k in 0..queries.len() {
-        mark_all(&mut marks, numbers_of(kind, &queries[k]));
+    for query in queries {
+        mark_all(&mut marks, numbers_of(kind, query));
     }
     Ok(marks)
 }

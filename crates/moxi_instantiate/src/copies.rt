@@ -21,9 +21,8 @@ fn copied_names(alloc: Global, names: &Names) -> Result<Names, NoMemory>
     ensures { IfOk result (λ copy. copy ≡ names.now) }
 {
     let mut copy = Names::new(alloc);
-    for k in 0..names.len() {
-        let name = names.at(k).duplicate(alloc)?;
-        copy.push(name)?;
+    for name in names {
+        copy.push(name.duplicate(alloc)?)?;
     }
     Ok(copy)
 }

@@ -20,8 +20,8 @@ pub fn body_sizes(alloc: Global, functions: &List<Function>) -> Result<Vec<u64>,
     ensures { IfOk result (λ sizes. AreCounted (measured_upto term_size (map plain_function functions.now) (length functions.now)) sizes.items) }
 {
     let mut sizes = Vec::new(alloc);
-    for k in 0..functions.len() {
-        let size = term_size(&sizes, &functions.at(k).body);
+    for function in functions.as_slice() {
+        let size = term_size(&sizes, &function.body);
         put(&mut sizes, size)?;
     }
     Ok(sizes)
@@ -32,8 +32,8 @@ pub fn body_heights(alloc: Global, functions: &List<Function>) -> Result<Vec<u64
     ensures { IfOk result (λ heights. AreCounted (measured_upto term_height (map plain_function functions.now) (length functions.now)) heights.items) }
 {
     let mut heights = Vec::new(alloc);
-    for k in 0..functions.len() {
-        let height = term_height(&heights, &functions.at(k).body);
+    for function in functions.as_slice() {
+        let height = term_height(&heights, &function.body);
         put(&mut heights, height)?;
     }
     Ok(heights)

@@ -53,8 +53,8 @@ fn add_parts(
     let system = systems.at(i as usize);
     add_part(alloc, places, system, parts)?;
     let mut next = fresh;
-    for k in 0..system.subsystems.len() {
-        next = add_inside(alloc, systems, places, system.subsystems.at(k), next, parts)?;
+    for subsystem in system.subsystems.as_slice() {
+        next = add_inside(alloc, systems, places, subsystem, next, parts)?;
     }
     Ok(next)
 }

@@ -80,9 +80,9 @@ pub fn places_inside(
     ensures places { IfOk result (λ inside. (v : ℕ) → v < length actuals.now + locals → number_in inside.items v ≡ place_inside (number_in places.now) actuals.now fresh v) }
 {
     let mut inside = Vec::new(alloc);
-    for a in 0..actuals.len() {
-        let actual = *actuals.at(a);
-        let place = number_of(places, actual);
+    let numbers = actuals.as_slice();
+    for number in numbers {
+        let place = number_of(places, *number);
         put_place(&mut inside, place)?;
     }
     for k in 0..locals {

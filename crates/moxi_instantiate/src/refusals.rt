@@ -34,8 +34,8 @@ fn has_name_twice(alloc: Global, variables: &Variables) -> Result<bool, NoMemory
     ensures { IfOk result (λ twice. twice ≡ not (are_fresh [] (variable_names variables.now))) }
 {
     let mut names = NameSet::new(alloc);
-    for k in 0..variables.len() {
-        if !names.declare(alloc, variables.at(k).name.bytes())? {
+    for variable in variables {
+        if !names.declare(alloc, variable.name.bytes())? {
             return Ok(true);
         }
     }

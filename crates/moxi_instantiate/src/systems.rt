@@ -91,8 +91,8 @@ fn row_of(alloc: Global, system: &System) -> Result<List<usize>, NoMemory>
     ensures { IfOk result (λ row. row ≡ systems_inside (plain_system system.now)) }
 {
     let mut row = List::new(alloc);
-    for k in 0..system.subsystems.len() {
-        row.push(system.subsystems.at(k).system as usize)?;
+    for subsystem in &system.subsystems {
+        row.push(subsystem.system as usize)?;
     }
     Ok(row)
 }
@@ -101,8 +101,8 @@ fn graph_of(alloc: Global, systems: &Systems) -> Result<Graph, NoMemory>
     ensures { IfOk result (λ graph. graph ≡ links_of (map plain_system systems.now)) }
 {
     let mut graph = List::new(alloc);
-    for k in 0..systems.len() {
-        let row = row_of(alloc, systems.at(k))?;
+    for system in systems {
+        let row = row_of(alloc, system)?;
         graph.push(row)?;
     }
     Ok(graph)
@@ -136,8 +136,8 @@ pub fn amounts(
         → capped (known counts.items i) ≡ capped (amount_upto measure (known calls.now) (map plain_system systems.now) (length (map plain_system systems.now)) i)) }
 {
     let mut counts = vec![in alloc; 0; systems.len()]?;
-    for k in 0..order.len() {
-        let i = *order.at(k);
+    for number in order.as_slice() {
+        let i = *number;
         let count = amount(measure, calls, &counts, systems.at(i));
         counts[i] = count;
     }

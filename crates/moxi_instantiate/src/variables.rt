@@ -47,8 +47,7 @@ fn add_named(
 ) -> Result<(), NoMemory>
     ensures { OnOk result (all.new ≡ all.old ++ named_inside path.now variables.now) }
 {
-    for k in 0..variables.len() {
-        let variable = variables.at(k);
+    for variable in variables {
         let name = joined(alloc, path, variable.name.bytes())?;
         all.push(Variable {
             name,
@@ -85,9 +84,9 @@ pub fn add_locals(
     requires there { i < length (map plain_system systems.now) }
     ensures { OnOk result (all.new ≡ all.old ++ locals_upto (map plain_system systems.now) (length (map plain_system systems.now)) path.now i) }
 {
-    let subsystems = &systems.at(i as usize).subsystems;
-    for k in 0..subsystems.len() {
-        add_subsystem(alloc, systems, path, subsystems.at(k), all)?;
+    let subsystems = systems.at(i as usize).subsystems.as_slice();
+    for subsystem in subsystems {
+        add_subsystem(alloc, systems, path, subsystem, all)?;
     }
     Ok(())
 }

@@ -2,7 +2,6 @@
 use Rattle.std.proofs.Common.{ℕ, Bool, true, false, cond, Option, None, Some, List, [], ◌∷◌, sym, ◌∙◌}
 use Rattle.std.specs.List.{AllByRecursion}
 use Rattle.moxi_sexpr.specs.declared.form.Atom.TheVariants.{Symbol, Keyword, Numeral, Binary, Hex, Quote}
-use Rattle.moxi_sexpr.specs.declared.scan.Spelling.TheVariants as how
 use Rattle.moxi_sexpr.specs.Printing.{ArePrintable, IsPrintable}
 use Rattle.moxi_sexpr.specs.Tree as form
 use Rattle.moxi_terms.specs.declared.data.Sort.{Sort}

@@ -1,6 +1,5 @@
 -- Pieces of printed commands, one behind the other.
-use Rattle.std.proofs.Common.{◌≡◌, ◌<◌, ◌+◌, ℕ, suc, List, [], ◌∷◌, ◌++◌, length, drop, refl, sym, ap, ◌∙◌, append_assoc, append-nil, drop-cons, add-one}
-use Rattle.std.specs.Prelude.{slice_index_or}
+use Rattle.std.proofs.Common.{◌≡◌, ℕ, List, [], ◌∷◌, ◌++◌, refl, sym, ap, ◌∙◌, append_assoc, append-nil}
 use Rattle.moxi_term_print.specs.Shown.{Shown, Showns, no_showns, shown, joined, text_of, parts_text, lines_text}
 use Rattle.moxi_term_print.specs.Terms.{symbol}
 use Rattle.moxi_script_print.specs.Printing.{attribute, shown_command}
@@ -18,21 +17,6 @@ lines_joined no_showns ys = refl
 lines_joined (shown x xs) ys = ap (λ t. text_of x ++ 10 ∷ t) (lines_joined xs ys) ∙ sym (append_assoc (text_of x) (10 ∷ lines_text xs) (lines_text ys))
 
 pub ruleset pieces = (attribute_text, joined_text, lines_joined, append_assoc, append-nil)
-
--- the elements from a place on
-pub front : {A : Type 0} (xs : List A) (i : ℕ) (x : A) → i < length xs → x ≡ slice_index_or xs i x → drop i xs ≡ x ∷ drop (i + 1) xs
-front xs i x h e = drop-cons xs i x h ∙ ap (λ y. y ∷ drop (suc i) xs) (sym e) ∙ ap (λ k. x ∷ drop k xs) (sym (add-one i))
-
--- one line more
-pub line_step : (out whole total text rest n1 n2 : List ℕ) → out ++ whole ≡ total → whole ≡ text ++ 10 ∷ rest → n1 ≡ out ++ text → n2 ≡ n1 ++ 10 ∷ [] → n2 ++ rest ≡ total
-line_step out whole total text rest n1 n2 kept step e f =
-    ap (λ z. z ++ rest) f ∙ append_assoc n1 (10 ∷ []) rest ∙ ap (λ z. z ++ 10 ∷ rest) e ∙ append_assoc out text (10 ∷ rest) ∙ ap (λ z. out ++ z) (sym step) ∙ kept
-
--- one attribute more
-pub part_step : (out total : List ℕ) (xs ys whole : Showns) (new : List ℕ) → out ++ parts_text (32 ∷ []) whole ≡ total → whole ≡ joined xs ys → new ≡ out ++ parts_text (32 ∷ []) xs → new ++ parts_text (32 ∷ []) ys ≡ total
-part_step out total xs ys whole new kept step e =
-    ap (λ z. z ++ parts_text (32 ∷ []) ys) e ∙ append_assoc out (parts_text (32 ∷ []) xs) (parts_text (32 ∷ []) ys) ∙ ap (λ z. out ++ z) (sym (joined_text xs ys))
-    ∙ ap (λ w. out ++ parts_text (32 ∷ []) w) (sym step) ∙ kept
 
 -- the line of a command without parts
 pub logic_end : (old w name n : List ℕ) → n ≡ old ++ 40 ∷ (w ++ 32 ∷ text_of (symbol name)) → n ++ 41 ∷ (10 ∷ []) ≡ old ++ lines_text (shown (shown_command w name no_showns) no_showns)

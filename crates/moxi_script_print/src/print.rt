@@ -33,20 +33,19 @@ fn put_logic(out: &mut Text, logic: &Option<Name>) -> Result<(), NoMemory>
 fn put_enumerations(out: &mut Text, scope: &Scope) -> Result<(), NoMemory>
     ensures { OnOk result (out.new ≡ out.old ++ lines_text (shown_enumerations scope.now.enumerations)) }
 {
-    let enumerations = scope.enumerations();
-    for i in 0..enumerations.len() {
-        put_enumeration(out, enumerations.at(i))?;
+    for enumeration in scope.enumerations() {
+        put_enumeration(out, enumeration)?;
         out.put(b"\n")?;
     }
     Ok(())
 }
 
+#[tactic(auto, using(crate::proofs::Pieces::pieces))]
 fn put_sorts(out: &mut Text, scope: &Scope) -> Result<(), NoMemory>
     ensures { OnOk result (out.new ≡ out.old ++ lines_text (shown_sorts scope.now scope.now.sorts)) }
 {
-    let sorts = scope.sorts();
-    for i in 0..sorts.len() {
-        put_named_sort(out, scope, sorts.at(i))?;
+    for sort in scope.sorts() {
+        put_named_sort(out, scope, sort)?;
         out.put(b"\n")?;
     }
     Ok(())
@@ -55,9 +54,8 @@ fn put_sorts(out: &mut Text, scope: &Scope) -> Result<(), NoMemory>
 fn put_functions(alloc: Global, out: &mut Text, scope: &Scope) -> Result<(), NoMemory>
     ensures { OnOk result (out.new ≡ out.old ++ lines_text (shown_functions scope.now scope.now.functions)) }
 {
-    let functions = scope.functions();
-    for i in 0..functions.len() {
-        put_function(alloc, out, scope, functions.at(i))?;
+    for function in scope.functions() {
+        put_function(alloc, out, scope, function)?;
         out.put(b"\n")?;
     }
     Ok(())
@@ -72,8 +70,8 @@ fn put_systems(
 ) -> Result<(), NoMemory>
     ensures { OnOk result (out.new ≡ out.old ++ lines_text (shown_systems scope.now (map bytes_behind names.now) (map plain_system systems.now))) }
 {
-    for i in 0..systems.len() {
-        put_system(alloc, out, scope, names, systems.at(i))?;
+    for system in systems {
+        put_system(alloc, out, scope, names, system)?;
         out.put(b"\n")?;
     }
     Ok(())
@@ -84,8 +82,8 @@ fn system_names<'a>(alloc: Global, systems: &'a Systems) -> Result<Vec<&'a [u8]>
     ensures { IfOk result (λ names. map bytes_behind names.items ≡ system_names (map plain_system systems.now)) }
 {
     let mut names = Vec::new(alloc);
-    for i in 0..systems.len() {
-        push(&mut names, systems.at(i).name.bytes())?;
+    for system in systems {
+        push(&mut names, system.name.bytes())?;
     }
     Ok(names)
 }

@@ -60,8 +60,8 @@ fn put_labels(
 ) -> Result<(), NoMemory>
     ensures { OnOk result (out.new ≡ out.old ++ parts_text (32 ∷ []) (shown_labels scope.now (map bytes_behind variables.now) keyword.now (map plain_formula formulas.now))) }
 {
-    for i in 0..formulas.len() {
-        put_label(alloc, out, scope, variables, keyword, formulas.at(i))?;
+    for formula in formulas {
+        put_label(alloc, out, scope, variables, keyword, formula)?;
     }
     Ok(())
 }
@@ -71,8 +71,8 @@ fn formula_names<'a>(alloc: Global, formulas: &'a Formulas) -> Result<Vec<&'a [u
     ensures { IfOk result (λ names. map bytes_behind names.items ≡ formula_names (map plain_formula formulas.now)) }
 {
     let mut names = Vec::new(alloc);
-    for i in 0..formulas.len() {
-        push(&mut names, formulas.at(i).name.bytes())?;
+    for formula in formulas {
+        push(&mut names, formula.name.bytes())?;
     }
     Ok(names)
 }
@@ -119,8 +119,8 @@ fn put_queries(
 ) -> Result<(), NoMemory>
     ensures { OnOk result (out.new ≡ out.old ++ parts_text (32 ∷ []) (shown_queries (map bytes_behind assumptions.now) (map bytes_behind currents.now) (map bytes_behind reachables.now) queries.now)) }
 {
-    for i in 0..queries.len() {
-        put_query(alloc, out, assumptions, currents, reachables, queries.at(i))?;
+    for query in queries {
+        put_query(alloc, out, assumptions, currents, reachables, query)?;
     }
     Ok(())
 }

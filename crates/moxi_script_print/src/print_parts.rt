@@ -117,8 +117,8 @@ pub fn push_names_of<'a>(
 ) -> Result<(), NoMemory>
     ensures { OnOk result (map bytes_behind names.new.items ≡ map bytes_behind names.old.items ++ names_of (map bytes_behind all.now) numbers.now) }
 {
-    for i in 0..numbers.len() {
-        push(names, name_in(all, *numbers.at(i)))?;
+    for number in numbers {
+        push(names, name_in(all, *number))?;
     }
     Ok(())
 }

@@ -53,8 +53,8 @@ fn put_subsystems(
 ) -> Result<(), NoMemory>
     ensures { OnOk result (out.new ≡ out.old ++ parts_text (32 ∷ []) (shown_subsystems (map bytes_behind systems.now) (map bytes_behind variables.now) subsystems.now)) }
 {
-    for i in 0..subsystems.len() {
-        put_subsystem(alloc, out, systems, variables, subsystems.at(i))?;
+    for subsystem in subsystems {
+        put_subsystem(alloc, out, systems, variables, subsystem)?;
     }
     Ok(())
 }

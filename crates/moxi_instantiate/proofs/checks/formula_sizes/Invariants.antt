@@ -5,5 +5,5 @@ use Rattle.moxi_flat.specs.Terms.{term_size}
 use Rattle.moxi_instantiate.specs.Counting.{capped, known}
 use Rattle.moxi_instantiate.proofs.checks.formula_sizes.Given as goal
 
-abbrev pub invariant-loop-k : goal.invariant-loop-k
-invariant-loop-k l = l.counts.items ≡ map (λ (f : Formula). capped (term_size (known l.sizes) (plain f.term))) (take l.k l.formulas)
+abbrev pub invariant-loop-formula : goal.invariant-loop-formula
+invariant-loop-formula l = l.counts.items ≡ map (λ (f : Formula). capped (term_size (known l.sizes) (plain f.term))) (take l.formula-index l.formulas)

@@ -4,8 +4,8 @@ use Rattle.moxi_flat.specs.Terms.{measured_upto, term_size}
 use Rattle.moxi_instantiate.specs.Counting.{AreCounted}
 use Rattle.moxi_instantiate.proofs.functions.body_sizes.Given as goal
 
-abbrev pub invariant-loop-k : goal.invariant-loop-k
-invariant-loop-k l = record {
-  long : length l.sizes.items ≡ l.k;
-  counted : AreCounted (measured_upto term_size (map plain_function l.functions) l.k) l.sizes.items;
+abbrev pub invariant-loop-function : goal.invariant-loop-function
+invariant-loop-function l = record {
+  long : length l.sizes.items ≡ l.function-index;
+  counted : AreCounted (measured_upto term_size (map plain_function l.functions) l.function-index) l.sizes.items;
 }

@@ -33,23 +33,23 @@ pub add_parts-add_inside-requires : goal.add_parts-add_inside-requires
 add_parts-add_inside-requires t c =
     let ss = map plain_system c.args.systems.now in
     let n = length ss in
-    let bs = c.at-system.result.now.subsystems in
-    let b = c.at.result.now in
+    let bs = c.as_slice-subsystem-items.result.now in
+    let b = c.subsystem-item.result in
     let inside : c.args.i < length c.args.systems.now = subst (λ n. c.args.i < n) (length-map c.args.systems.now plain_system) c.requires.there in
-    let same : (system_at (map plain_system c.args.systems.now) c.args.i).subsystems ≡ c.at-system.result.now.subsystems =
-    sym (ap (λ s. s.subsystems) (system_read c.args.systems.now c.args.i c.at-system.result.now inside c.at-system.ensures)) in
+    let same : (system_at (map plain_system c.args.systems.now) c.args.i).subsystems ≡ c.as_slice-subsystem-items.result.now =
+    sym (c.as_slice-subsystem-items.ensures ∙ ap (λ s. s.subsystems) (system_read c.args.systems.now c.args.i c.at-system.result.now inside c.at-system.ensures)) in
     let ranked = ranked_held ss c.requires.ranked in
-    let l : c.loop-k.k < length c.at-system.result.now.subsystems = omega (arith, c.loop-k-test.true, c.len-k-end.ensures) in
-    let own = sub_at (HasActuals ss (length (variables_in (system_at ss c.args.i)))) bs c.loop-k.k b
-    (subst (AllByRecursion (HasActuals ss (length (variables_in (system_at ss c.args.i))))) same (c.requires.over c.args.i c.requires.there).subsystems) l c.at.ensures in
-    let low : nesting_upto (map plain_system c.args.systems.now) (length (map plain_system c.args.systems.now)) c.at.result.now.system
+    let l = c.loop-subsystem-test.true in
+    let own = sub_at (HasActuals ss (length (variables_in (system_at ss c.args.i)))) bs c.loop-subsystem.subsystem-index b
+    (subst (AllByRecursion (HasActuals ss (length (variables_in (system_at ss c.args.i))))) same (c.requires.over c.args.i c.requires.there).subsystems) l c.subsystem-item.is in
+    let low : nesting_upto (map plain_system c.args.systems.now) (length (map plain_system c.args.systems.now)) c.subsystem-item.result.system
     < nesting_upto (map plain_system c.args.systems.now) (length (map plain_system c.args.systems.now)) c.args.i =
-    sub_at (λ b. nesting_upto ss n b.system < nesting_upto ss n c.args.i) bs c.loop-k.k b
-    (subst (λ bs. AllByRecursion (λ (b : Subsystem). nesting_upto ss n b.system < nesting_upto ss n c.args.i) bs) same (ranked.falls c.args.i c.requires.there)) l c.at.ensures in
+    sub_at (λ b. nesting_upto ss n b.system < nesting_upto ss n c.args.i) bs c.loop-subsystem.subsystem-index b
+    (subst (λ bs. AllByRecursion (λ (b : Subsystem). nesting_upto ss n b.system < nesting_upto ss n c.args.i) bs) same (ranked.falls c.args.i c.requires.there)) l c.subsystem-item.is in
     let all = (system_at ss c.args.i).subsystems in
     let total : c.args.fresh + sum_by (count_inside ss) all ≡ c.args.fresh + count_upto ss n c.args.i = ap (λ k. c.args.fresh + k) (ranked.enough c.args.i c.requires.there).count in
-    let room = room_at (count_inside ss) all c.loop-k.k b c.loop-k.next (c.args.fresh + sum_by (count_inside ss) all) 4294967296 (subst (λ bs. c.loop-k.k < length bs) (sym same) l)
-    (subst (λ bs. b ≡ slice_index_or bs c.loop-k.k b) (sym same) c.at.ensures) c.loop-k.invariant.counted (subst (λ k. k < 4294967296) (sym total) c.requires.room) in
+    let room = room_at (count_inside ss) all c.loop-subsystem.subsystem-index b c.loop-subsystem.next (c.args.fresh + sum_by (count_inside ss) all) 4294967296 (subst (λ bs. c.loop-subsystem.subsystem-index < length bs) (sym same) l)
+    (subst (λ bs. b ≡ slice_index_or bs c.loop-subsystem.subsystem-index b) (sym same) c.subsystem-item.is) c.loop-subsystem.invariant.counted (subst (λ k. k < 4294967296) (sym total) c.requires.room) in
     (omega (arith, low), (c.requires.ranked, (c.requires.over, (own.there, (own.long, room)))))
 
 pub add_parts-returns-clause-next : goal.add_parts-returns-clause-next
@@ -57,10 +57,10 @@ add_parts-returns-clause-next t c =
     let ss = map plain_system c.args.systems.now in
     let all = (system_at (map plain_system c.args.systems.now) c.args.i).subsystems in
     let inside : c.args.i < length c.args.systems.now = subst (λ n. c.args.i < n) (length-map c.args.systems.now plain_system) c.requires.there in
-    let same : (system_at (map plain_system c.args.systems.now) c.args.i).subsystems ≡ c.at-system.result.now.subsystems =
-    sym (ap (λ s. s.subsystems) (system_read c.args.systems.now c.args.i c.at-system.result.now inside c.at-system.ensures)) in
-    let ends : length (system_at (map plain_system c.args.systems.now) c.args.i).subsystems ≤ c.loop-k.k = omega (arith, c.loop-k-test.false, c.len-k-end.ensures, ap length same) in
-    sums_end (count_inside ss) all c.loop-k.k c.loop-k.next (c.args.fresh + sum_by (count_inside ss) all) ends c.loop-k.invariant.counted
+    let same : (system_at (map plain_system c.args.systems.now) c.args.i).subsystems ≡ c.as_slice-subsystem-items.result.now =
+    sym (c.as_slice-subsystem-items.ensures ∙ ap (λ s. s.subsystems) (system_read c.args.systems.now c.args.i c.at-system.result.now inside c.at-system.ensures)) in
+    let ends : length (system_at (map plain_system c.args.systems.now) c.args.i).subsystems ≤ c.loop-subsystem.subsystem-index = omega (arith, c.loop-subsystem-test.false, ap length same) in
+    sums_end (count_inside ss) all c.loop-subsystem.subsystem-index c.loop-subsystem.next (c.args.fresh + sum_by (count_inside ss) all) ends c.loop-subsystem.invariant.counted
     ∙ ap (λ k. c.args.fresh + k) ((ranked_held ss c.requires.ranked).enough c.args.i c.requires.there).count
 
 pub add_parts-returns-clause-parts : goal.add_parts-returns-clause-parts
@@ -70,9 +70,9 @@ add_parts-returns-clause-parts t c =
     let place = number_in c.args.places.now in
     let all = (system_at (map plain_system c.args.systems.now) c.args.i).subsystems in
     let inside : c.args.i < length c.args.systems.now = subst (λ n. c.args.i < n) (length-map c.args.systems.now plain_system) c.requires.there in
-    let same : (system_at (map plain_system c.args.systems.now) c.args.i).subsystems ≡ c.at-system.result.now.subsystems =
-    sym (ap (λ s. s.subsystems) (system_read c.args.systems.now c.args.i c.at-system.result.now inside c.at-system.ensures)) in
-    let ends : length (system_at (map plain_system c.args.systems.now) c.args.i).subsystems ≤ c.loop-k.k = omega (arith, c.loop-k-test.false, c.len-k-end.ensures, ap length same) in
-    parts_end ss (count_upto ss n) (parts_upto ss n) place all c.loop-k.k c.loop-k.next (map plain_part c.loop-k.parts)
-    (map plain_part c.args.parts.now ++ part_of place (system_at ss c.args.i) ∷ parts_each ss (count_upto ss n) (parts_upto ss n) place c.args.fresh all) ends c.loop-k.invariant.parts
+    let same : (system_at (map plain_system c.args.systems.now) c.args.i).subsystems ≡ c.as_slice-subsystem-items.result.now =
+    sym (c.as_slice-subsystem-items.ensures ∙ ap (λ s. s.subsystems) (system_read c.args.systems.now c.args.i c.at-system.result.now inside c.at-system.ensures)) in
+    let ends : length (system_at (map plain_system c.args.systems.now) c.args.i).subsystems ≤ c.loop-subsystem.subsystem-index = omega (arith, c.loop-subsystem-test.false, ap length same) in
+    parts_end ss (count_upto ss n) (parts_upto ss n) place all c.loop-subsystem.subsystem-index c.loop-subsystem.next (map plain_part c.loop-subsystem.parts)
+    (map plain_part c.args.parts.now ++ part_of place (system_at ss c.args.i) ∷ parts_each ss (count_upto ss n) (parts_upto ss n) place c.args.fresh all) ends c.loop-subsystem.invariant.parts
     ∙ ap (λ ps. map plain_part c.args.parts.now ++ ps) (((ranked_held ss c.requires.ranked).enough c.args.i c.requires.there).parts place c.args.fresh)

@@ -1,19 +1,22 @@
-use Rattle.std.proofs.Common.{◌<◌, ◌+◌, length, refl, arith}
+use Rattle.std.proofs.Common.{◌<◌, ◌+◌, length, refl, ap, ◌∙◌, subst}
+use Rattle.std.specs.Prelude.{slice_index_or}
 use Rattle.moxi_instantiate.specs.Copying.{number_in}
 use Rattle.moxi_instantiate.proofs.Placed.{actual_placed, local_placed, more_long, one_place, placed_on}
 use Rattle.moxi_instantiate.proofs.parts.places_inside.Goals as goal
 
-pub loop-a-preserved : goal.loop-a-preserved
-loop-a-preserved c =
+pub loop-number-preserved : goal.loop-number-preserved
+loop-number-preserved c =
     let place = number_in c.args.places.now in
     let actuals = c.args.actuals.now in
-    let l : c.loop-a.a < length c.args.actuals.now = omega (arith, c.loop-a-test.true, c.len-a-end.ensures) in
+    let a = c.loop-number.number-index in
+    let x = c.number_of-place.result in
+    let l : c.loop-number.number-index < length c.args.actuals.now = subst (λ xs. a < length xs) c.as_slice-numbers.ensures c.loop-number-test.true in
+    let own = c.number_of-place.ensures ∙ ap (λ xs. place (slice_index_or xs a 0)) c.as_slice-numbers.ensures in
     record {
-      long = one_place c.loop-a.inside.items c.put_place.new.places.items c.number_of-place.result c.loop-a.a c.in_ok-put_place.ensures c.loop-a.invariant.long;
+      long = one_place c.loop-number.inside.items c.put_place.new.places.items x a c.in_ok-put_place.ensures c.loop-number.invariant.long;
       placed =
-          placed_on place actuals c.args.fresh c.number_of-place.result c.loop-a.inside.items c.put_place.new.places.items c.in_ok-put_place.ensures
-          (actual_placed place actuals c.args.fresh c.loop-a.a c.at-actual.result.now c.number_of-place.result (length c.loop-a.inside.items) c.loop-a.invariant.long l c.at-actual.ensures c.number_of-place.ensures)
-          c.loop-a.invariant.placed;
+          placed_on place actuals c.args.fresh x c.loop-number.inside.items c.put_place.new.places.items c.in_ok-put_place.ensures
+          (actual_placed place actuals c.args.fresh a x (length c.loop-number.inside.items) c.loop-number.invariant.long l own) c.loop-number.invariant.placed;
     }
 
 pub loop-k-preserved : goal.loop-k-preserved

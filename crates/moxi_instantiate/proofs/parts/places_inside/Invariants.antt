@@ -3,9 +3,9 @@ use Rattle.moxi_instantiate.specs.Copying.{number_in}
 use Rattle.moxi_instantiate.proofs.Placed.{ArePlaced}
 use Rattle.moxi_instantiate.proofs.parts.places_inside.Given as goal
 
-abbrev pub invariant-loop-a : goal.invariant-loop-a
-invariant-loop-a l = record {
-  long : length l.inside.items ≡ l.a;
+abbrev pub invariant-loop-number : goal.invariant-loop-number
+invariant-loop-number l = record {
+  long : length l.inside.items ≡ l.number-index;
   placed : ArePlaced (number_in l.places) l.actuals l.fresh l.inside.items;
 }
 

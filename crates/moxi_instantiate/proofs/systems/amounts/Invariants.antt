@@ -4,8 +4,8 @@ use Rattle.moxi_instantiate.specs.Counting.{known}
 use Rattle.moxi_instantiate.proofs.Filling.{AreFilled}
 use Rattle.moxi_instantiate.proofs.systems.amounts.Given as goal
 
-abbrev pub invariant-loop-k : goal.invariant-loop-k
-invariant-loop-k l = record {
+abbrev pub invariant-loop-number : goal.invariant-loop-number
+invariant-loop-number l = record {
   long : length l.counts.items ≡ length l.systems;
-  filled : AreFilled l.measure (known l.calls) (map plain_system l.systems) l.order l.k l.counts.items;
+  filled : AreFilled l.measure (known l.calls) (map plain_system l.systems) l.order l.number-index l.counts.items;
 }

@@ -10,7 +10,7 @@ decreases-add_locals l = 2 * nesting_upto (map plain_system l.systems.now) (leng
 abbrev pub decreases-add_subsystem : goal.decreases-add_subsystem
 decreases-add_subsystem l = 2 * nesting_upto (map plain_system l.systems.now) (length (map plain_system l.systems.now)) l.subsystem.now.system + 1
 
-abbrev pub invariant-add_locals-loop-k : goal.invariant-add_locals-loop-k
-invariant-add_locals-loop-k l =
+abbrev pub invariant-add_locals-loop-subsystem : goal.invariant-add_locals-loop-subsystem
+invariant-add_locals-loop-subsystem l =
     let ss = map plain_system l.systems in
-    l.all ++ locals_each ss (locals_upto ss (length ss)) l.path (drop l.k (system_at ss l.i).subsystems) ≡ l.fn.all ++ locals_each ss (locals_upto ss (length ss)) l.path (system_at ss l.i).subsystems
+    l.all ++ locals_each ss (locals_upto ss (length ss)) l.path (drop l.subsystem-index (system_at ss l.i).subsystems) ≡ l.fn.all ++ locals_each ss (locals_upto ss (length ss)) l.path (system_at ss l.i).subsystems
