@@ -1,9 +1,11 @@
--- The items and symbols of an accepted model are few, and its symbols can be constants.
+-- The items and symbols of an accepted model are few, its symbols can be constants, and the numbers of its formulas are in
+-- range.
 use Rattle.std.proofs.Common.{◌≡◌, ℕ, ◌≤◌, ◌<◌, ◌^◌, ◌&&◌, ◌||◌, Bool, true, false, not, List, [], ◌∷◌, codes, length, map, refl, sym, ap, ◌∙◌, subst, arith}
 use Rattle.std.specs.List.{list_any}
 use Rattle.std.proofs.Math.Bool.{Bool-set}
 use Rattle.std.proofs.Math.Bridge.{le_prop}
 use Rattle.std.proofs.Math.Logic.{∥∥₁_elim}
+use Rattle.std.proofs.Math.Nat.{ℕ_set}
 use Rattle.std.proofs.lemmas.List.{length-map}
 use Rattle.name_maps.specs.Names.{are_fresh}
 use Rattle.name_maps.proofs.FreshNames.{all_fresh}
@@ -17,6 +19,8 @@ use Rattle.smv_flat.specs.FlatFormulas.{form_plain}
 use Rattle.smv_flatten.specs.FlatModel.{FlatModel, IsOfModel}
 use Rattle.smv_script_laws.proofs.Constants.{constant_of, constants_apart}
 use Rattle.smv_script_laws.proofs.Limits.{items_are_few, symbols_are_few}
+use Rattle.smv_script.specs.Ranges.{forms_excess}
+use Rattle.smv_script_laws.proofs.Ranges.{bodies_in_range}
 use Rattle.smv_script_terms.specs.Depths.{forms_depth}
 use Rattle.smv_to_moxi.specs.Symbols.{CanBeConstants}
 use Rattle.smv_to_moxi.proofs.LowBodies.{bodies_low}
@@ -46,6 +50,7 @@ pub record IsSmallModel (f : FlatModel) : Type 0 where
   pub items : length f.items < 2 ^ 30
   pub symbols : CanBeConstants f.symbols
   pub deep : forms_depth (map form_plain f.formulas) < 2 ^ 32
+  pub in_range : forms_excess (map form_plain f.formulas) ≡ 0
 
 small_model : (f : FlatModel) → IsOfModel f → IsSmallModel f
 small_model f m =
@@ -61,6 +66,7 @@ small_model f m =
       items = omega (arith, l, n, e);
       symbols = subst CanBeConstants (sym s) (constants_can t (omega (arith, k)));
       deep = omega (arith, d, b);
+      in_range = ap (λ (x : PlainFlat). forms_excess x.forms) m.form ∙ bodies_in_range m.source m.read.end m.read.text m.read.tokens m.read.lexed m.read.spelled m.needed m.accepted;
     }
 
 pub is_small_model : (f : FlatModel) → ∥ IsOfModel f ∥₁ → IsSmallModel f
@@ -71,4 +77,5 @@ is_small_model f t = record {
     free = ∥∥₁_elim t (Bool-set (may_be_enumeration no_scope (codes "Symbol") (map constant_of f.symbols)) true) (λ (m : IsOfModel f). (small_model f m).symbols.free);
   };
   deep = ∥∥₁_elim t le_prop (λ (m : IsOfModel f). (small_model f m).deep);
+  in_range = ∥∥₁_elim t (ℕ_set (forms_excess (map form_plain f.formulas)) 0) (λ (m : IsOfModel f). (small_model f m).in_range);
 }

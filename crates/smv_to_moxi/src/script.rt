@@ -9,6 +9,7 @@ ghost use Rattle.smv_flat.specs.FlatFormulas.{form_plain};
 ghost use Rattle.smv_flat.specs.FlatParts.{parts_plain};
 ghost use Rattle.smv_flat.specs.FlatView.{plain_flat};
 ghost use Rattle.smv_flat_laws.specs.FlatTruth.{forms_invariants};
+ghost use Rattle.smv_script.specs.Ranges.{excess, forms_excess};
 ghost use Rattle.smv_script.specs.Script.{coding_of, place_of_item, query_of, queries_from, reachables_from, symbol_sort};
 ghost use Rattle.smv_script_terms.specs.Depths.{depth, forms_depth};
 ghost use Rattle.smv_script_terms.specs.Questions.{codes_of, place_at};
@@ -139,7 +140,8 @@ fn reachable_of(
     j: usize,
     form: &FlatFormula,
 ) -> Result<Formula, NoMemory>
-    requires { depth 0 (plain_flat form.now.body) < 2 ^ 32 }
+    requires deep { depth 0 (plain_flat form.now.body) < 2 ^ 32 }
+    requires in_range { excess (plain_flat form.now.body) ≡ 0 }
     ensures { IfOk result (λ f. plain_formula f ≡ reachable_of (codes_of coding.now) j (plain_flat form.now.body)) }
 {
     let name = numbered(alloc, b"r.", j)?;
@@ -164,7 +166,8 @@ fn reachables_of(
     coding: &Coding,
     formulas: &[FlatFormula],
 ) -> Result<Formulas, NoMemory>
-    requires { forms_depth (map form_plain formulas.now) < 2 ^ 32 }
+    requires deep { forms_depth (map form_plain formulas.now) < 2 ^ 32 }
+    requires in_range { forms_excess (map form_plain formulas.now) ≡ 0 }
     ensures { IfOk result (λ fs. map plain_formula fs ≡ reachables_from (codes_of coding.now) 0 (forms_invariants (map form_plain formulas.now))) }
 {
     let mut all = Formulas::new(alloc);
@@ -380,6 +383,7 @@ pub(crate) fn single_in<'f>(
     requires few { length parts.items.now < 2 ^ 30 }
     requires symbols { CanBeConstants parts.symbols.now }
     requires deep { forms_depth (map form_plain parts.formulas.now) < 2 ^ 32 }
+    requires in_range { forms_excess (map form_plain parts.formulas.now) ≡ 0 }
     requires some { 1 ≤ width }
     requires low { width ≤ 64 }
     ensures { IfOk result (λ s. plain_single s ≡ script_form (parts_plain parts) width) }

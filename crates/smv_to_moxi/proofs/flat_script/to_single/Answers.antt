@@ -1,6 +1,7 @@
-use Rattle.std.proofs.Common.{◌<◌, ◌^◌, ◌∙◌, length, map, subst, sym}
+use Rattle.std.proofs.Common.{◌≡◌, ◌<◌, ◌^◌, length, map, subst, sym}
 use Rattle.smv_flatten.specs.FlatModel.{flat_plain}
 use Rattle.smv_flat.specs.FlatFormulas.{form_plain}
+use Rattle.smv_script.specs.Ranges.{forms_excess}
 use Rattle.smv_script.specs.Script.{script_of}
 use Rattle.smv_script_terms.specs.Depths.{forms_depth}
 use Rattle.smv_flat.specs.FlatParts.{parts_plain}
@@ -20,6 +21,9 @@ single_in-single-requires-clause-symbols c = subst CanBeConstants (sym c.parts.e
 
 pub single_in-single-requires-clause-deep : goal.single_in-single-requires-clause-deep
 single_in-single-requires-clause-deep c = subst (λ fs. forms_depth (map form_plain fs) < 2 ^ 32) (sym c.parts.ensures.formulas) (is_small_model c.args.flat.now c.is_of_model.ensures).deep
+
+pub single_in-single-requires-clause-in_range : goal.single_in-single-requires-clause-in_range
+single_in-single-requires-clause-in_range c = subst (λ fs. forms_excess (map form_plain fs) ≡ 0) (sym c.parts.ensures.formulas) (is_small_model c.args.flat.now c.is_of_model.ensures).in_range
 
 pub returns : goal.returns
 returns c =
