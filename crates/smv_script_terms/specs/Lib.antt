@@ -5,5 +5,5 @@ pub mod Readings
 pub mod Groups
 pub mod Chains
 pub mod Parts
-pub mod FlatParts
+pub mod FlatChains
 pub mod Depths

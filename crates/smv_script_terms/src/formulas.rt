@@ -3,19 +3,20 @@ ghost use Rattle.std.specs.Prelude.{◌≡◌, ◌<◌, ◌++◌, IfOk, OnOk, le
 ghost use Rattle.moxi_terms.specs.View.{plain};
 ghost use Rattle.smv_items.specs.FlatItemView.{item_plain};
 ghost use Rattle.smv_flat.specs.FlatFormulas.{form_plain};
+ghost use Rattle.smv_flat.specs.FlatParts.{parts_plain};
 ghost use Rattle.smv_script.specs.Script.{above_forms, above_items, formula_of, instance_parts, item_parts, numbered_parts, parts_upto};
 ghost use Rattle.smv_script_terms.specs.Chains.{AreChains};
-ghost use Rattle.smv_script_terms.specs.FlatParts.{AreBodyChains, AreFlatChains, instance_count, plain_parts};
+ghost use Rattle.smv_script_terms.specs.FlatChains.{AreBodyChains, AreFlatChains, instance_count};
 ghost use Rattle.smv_script_terms.specs.Parts.{form_number, form_owned, item_number, owned_by};
 ghost use Rattle.smv_script_terms.specs.Questions.{codes_of};
 
 use crate::chains::{Chains, chains_of};
 use crate::coding::Coding;
-use crate::flat_parts::FlatParts;
 use crate::operators::several;
 use crate::parts::{add_form, add_invar_item, add_trans_item, body_chains};
+use crate::small_flat::SmallFlat;
 use moxi_terms::{Term, TermOp, Terms};
-use smv_flat::FlatFormula;
+use smv_flat::{FlatFormula, FlatParts};
 use smv_items::FlatItem;
 use smv_text::When;
 use std::alloc::Global;
@@ -98,15 +99,15 @@ fn add_item<'f>(
     alloc: Global,
     coding: &Coding,
     when: When,
-    flat: &FlatParts<'f>,
+    flat: &SmallFlat<'f>,
     bodies: &Chains,
     k: usize,
     item: &FlatItem,
     all: &mut Terms,
 ) -> Result<(), NoMemory>
-    requires number { k < length flat.now.items.now }
-    requires bodies { AreBodyChains flat.now bodies.now }
-    ensures { OnOk result (map plain all.new.items ≡ map plain all.old.items ++ item_parts (plain_parts flat.now) (codes_of coding.now) when k (item_plain item.now)) }
+    requires number { k < length flat.now.parts.items.now }
+    requires bodies { AreBodyChains flat.now.parts bodies.now }
+    ensures { OnOk result (map plain all.new.items ≡ map plain all.old.items ++ item_parts (parts_plain flat.now.parts) (codes_of coding.now) when k (item_plain item.now)) }
 {
     match when {
         When::First => Ok(()),
@@ -120,18 +121,18 @@ fn add_items<'f>(
     alloc: Global,
     coding: &Coding,
     when: When,
-    flat: &FlatParts<'f>,
+    flat: &SmallFlat<'f>,
     chains: &FlatChains,
     i: usize,
     all: &mut Terms,
 ) -> Result<(), NoMemory>
-    requires number { i < instance_count flat.now }
-    requires chains { AreFlatChains flat.now chains.now }
-    ensures { OnOk result (map plain all.new.items ≡ map plain all.old.items ++ numbered_parts (plain_parts flat.now) (codes_of coding.now) when i 0 (map item_plain flat.now.items.now)) }
+    requires number { i < instance_count flat.now.parts }
+    requires chains { AreFlatChains flat.now.parts chains.now }
+    ensures { OnOk result (map plain all.new.items ≡ map plain all.old.items ++ numbered_parts (parts_plain flat.now.parts) (codes_of coding.now) when i 0 (map item_plain flat.now.parts.items.now)) }
 {
     let mut k = chains.items.first(i);
-    'items: while k < flat.items.len() {
-        let item = &flat.items[k];
+    'items: while k < flat.parts.items.len() {
+        let item = &flat.parts.items[k];
         add_item(alloc, coding, when, flat, &chains.bodies, k, item, all)?;
         k = chains.items.next(k);
     }
@@ -143,18 +144,18 @@ fn add_forms<'f>(
     alloc: Global,
     coding: &Coding,
     when: When,
-    flat: &FlatParts<'f>,
+    flat: &SmallFlat<'f>,
     chains: &FlatChains,
     i: usize,
     all: &mut Terms,
 ) -> Result<(), NoMemory>
-    requires number { i < instance_count flat.now }
-    requires chains { AreFlatChains flat.now chains.now }
-    ensures { OnOk result (map plain all.new.items ≡ map plain all.old.items ++ owned_by i (map (form_owned (codes_of coding.now) when) (map form_plain flat.now.formulas.now))) }
+    requires number { i < instance_count flat.now.parts }
+    requires chains { AreFlatChains flat.now.parts chains.now }
+    ensures { OnOk result (map plain all.new.items ≡ map plain all.old.items ++ owned_by i (map (form_owned (codes_of coding.now) when) (map form_plain flat.now.parts.formulas.now))) }
 {
     let mut j = chains.formulas.first(i);
-    'formulas: while j < flat.formulas.len() {
-        add_form(alloc, coding, when, &flat.formulas[j], all)?;
+    'formulas: while j < flat.parts.formulas.len() {
+        add_form(alloc, coding, when, &flat.parts.formulas[j], all)?;
         j = chains.formulas.next(j);
     }
     Ok(())
@@ -165,14 +166,14 @@ fn add_instance<'f>(
     alloc: Global,
     coding: &Coding,
     when: When,
-    flat: &FlatParts<'f>,
+    flat: &SmallFlat<'f>,
     chains: &FlatChains,
     i: usize,
     all: &mut Terms,
 ) -> Result<(), NoMemory>
-    requires number { i < instance_count flat.now }
-    requires chains { AreFlatChains flat.now chains.now }
-    ensures { OnOk result (map plain all.new.items ≡ map plain all.old.items ++ instance_parts (plain_parts flat.now) (codes_of coding.now) when i) }
+    requires number { i < instance_count flat.now.parts }
+    requires chains { AreFlatChains flat.now.parts chains.now }
+    ensures { OnOk result (map plain all.new.items ≡ map plain all.old.items ++ instance_parts (parts_plain flat.now.parts) (codes_of coding.now) when i) }
 {
     add_items(alloc, coding, when, flat, chains, i, all)?;
     add_forms(alloc, coding, when, flat, chains, i, all)
@@ -183,13 +184,13 @@ fn parts_of<'f>(
     alloc: Global,
     coding: &Coding,
     when: When,
-    flat: &FlatParts<'f>,
+    flat: &SmallFlat<'f>,
     chains: &FlatChains,
 ) -> Result<Terms, NoMemory>
-    requires { AreFlatChains flat.now chains.now }
-    ensures { IfOk result (λ ts. map plain ts.items ≡ parts_upto (plain_parts flat.now) (codes_of coding.now) when (instance_count flat.now)) }
+    requires { AreFlatChains flat.now.parts chains.now }
+    ensures { IfOk result (λ ts. map plain ts.items ≡ parts_upto (parts_plain flat.now.parts) (codes_of coding.now) when (instance_count flat.now.parts)) }
 {
-    let mut all = Vec::with_capacity(alloc, flat.formulas.len())?;
+    let mut all = Vec::with_capacity(alloc, flat.parts.formulas.len())?;
     for i in 0..chains.count {
         add_instance(alloc, coding, when, flat, chains, i, &mut all)?;
     }
@@ -203,11 +204,11 @@ pub fn formula_of<'f>(
     alloc: Global,
     coding: &Coding,
     when: When,
-    flat: &FlatParts<'f>,
+    flat: &SmallFlat<'f>,
     chains: &FlatChains,
 ) -> Result<Term, NoMemory>
-    requires { AreFlatChains flat.now chains.now }
-    ensures { IfOk result (λ t. plain t ≡ formula_of (plain_parts flat.now) (codes_of coding.now) when) }
+    requires { AreFlatChains flat.now.parts chains.now }
+    ensures { IfOk result (λ t. plain t ≡ formula_of (parts_plain flat.now.parts) (codes_of coding.now) when) }
 {
     let parts = parts_of(alloc, coding, when, flat, chains)?;
     Ok(several(TermOp::And, true, parts))

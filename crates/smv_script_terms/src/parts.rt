@@ -5,6 +5,7 @@ ghost use Rattle.moxi_terms.specs.View.{plain};
 ghost use Rattle.smv_intervals.specs.View.{seen};
 ghost use Rattle.smv_items.specs.FlatItemView.{item_plain};
 ghost use Rattle.smv_flat.specs.FlatFormulas.{form_plain};
+ghost use Rattle.smv_flat.specs.FlatParts.{parts_plain};
 ghost use Rattle.smv_flat.specs.FlatView.{plain_flat};
 ghost use Rattle.smv_script.specs.Codes.{symbol_datum};
 ghost use Rattle.smv_script.specs.Script.{body_parts, domain_parts, form_parts, interval_parts, invar_item, is_following, member_term, trans_item};
@@ -12,20 +13,20 @@ ghost use Rattle.smv_script.specs.Ranges.{excess};
 ghost use Rattle.smv_script.specs.Terms.{translation};
 ghost use Rattle.smv_meaning.specs.Phases.{when_same};
 ghost use Rattle.smv_script_terms.specs.Depths.{depth};
-ghost use Rattle.smv_script_terms.specs.FlatParts.{AreBodyChains, plain_parts};
+ghost use Rattle.smv_script_terms.specs.FlatChains.{AreBodyChains};
 ghost use Rattle.smv_script_terms.specs.Parts.{body_equation, body_number, body_number_of};
 ghost use Rattle.smv_script_terms.specs.Questions.{codes_of};
 
 use crate::chains::{Chains, chains_of};
 use crate::coding::{Coding, Question, Subject};
 use crate::constants::integer_term;
-use crate::flat_parts::FlatParts;
 use crate::functions::between;
 use crate::operators::{equal, several};
+use crate::small_flat::SmallFlat;
 use crate::terms::terms_of;
 use moxi_terms::{Datum, Term, TermOp, Terms};
 use name_maps::NameSet;
-use smv_flat::{FlatExpr, FlatFormula, Role};
+use smv_flat::{FlatExpr, FlatFormula, FlatParts, Role};
 use smv_intervals::Ty;
 use smv_items::{FlatItem, ItemKind};
 use smv_text::{Member, When};
@@ -186,18 +187,18 @@ fn add_body(
 fn add_bodies<'f>(
     alloc: Global,
     coding: &Coding,
-    flat: &FlatParts<'f>,
+    flat: &SmallFlat<'f>,
     bodies: &Chains,
     k: usize,
     all: &mut Terms,
 ) -> Result<(), NoMemory>
-    requires number { k < length flat.now.items.now }
-    requires bodies { AreBodyChains flat.now bodies.now }
-    ensures { OnOk result (map plain all.new.items ≡ map plain all.old.items ++ body_parts (codes_of coding.now) k (map form_plain flat.now.formulas.now)) }
+    requires number { k < length flat.now.parts.items.now }
+    requires bodies { AreBodyChains flat.now.parts bodies.now }
+    ensures { OnOk result (map plain all.new.items ≡ map plain all.old.items ++ body_parts (codes_of coding.now) k (map form_plain flat.now.parts.formulas.now)) }
 {
     let mut j = bodies.first(k);
-    'bodies: while j < flat.formulas.len() {
-        add_body(alloc, coding, &flat.formulas[j], all)?;
+    'bodies: while j < flat.parts.formulas.len() {
+        add_body(alloc, coding, &flat.parts.formulas[j], all)?;
         j = bodies.next(j);
     }
     Ok(())
@@ -207,22 +208,22 @@ fn add_bodies<'f>(
 pub(crate) fn add_invar_item<'f>(
     alloc: Global,
     coding: &Coding,
-    flat: &FlatParts<'f>,
+    flat: &SmallFlat<'f>,
     bodies: &Chains,
     k: usize,
     item: &FlatItem,
     all: &mut Terms,
 ) -> Result<(), NoMemory>
-    requires number { k < length flat.now.items.now }
-    requires bodies { AreBodyChains flat.now bodies.now }
-    ensures { OnOk result (map plain all.new.items ≡ map plain all.old.items ++ invar_item (plain_parts flat.now) (codes_of coding.now) k (item_plain item.now) item.now.kind) }
+    requires number { k < length flat.now.parts.items.now }
+    requires bodies { AreBodyChains flat.now.parts bodies.now }
+    ensures { OnOk result (map plain all.new.items ≡ map plain all.old.items ++ invar_item (parts_plain flat.now.parts) (codes_of coding.now) k (item_plain item.now) item.now.kind) }
 {
     match item.kind {
         ItemKind::Define | ItemKind::Actual => add_bodies(alloc, coding, flat, bodies, k, all),
         ItemKind::State | ItemKind::Frozen | ItemKind::Input => add_domain(
             alloc,
             coding,
-            flat.symbols,
+            flat.parts.symbols,
             k as u32,
             item.ty,
             item.members.as_slice(),

@@ -23,7 +23,8 @@ use Rattle.moxi_scripts.specs.Script.{PlainCheck, PlainFormula, PlainScript, Pla
 use Rattle.smv_flat.specs.FlatForms.{PlainFlat}
 use Rattle.smv_script.specs.Terms.{Coding}
 use Rattle.smv_script.specs.Script.{check_of, coding_of, place_of_item, queries_from, query_of, reachables_from, script_of, symbol_sort, system_of}
-use Rattle.smv_script_terms.specs.FlatParts.{flat_in}
+use Rattle.smv_flat.specs.declared.parts.FlatParts.{FlatParts}
+use Rattle.smv_flat.specs.FlatParts.{parts_plain}
 use Rattle.smv_to_moxi.specs.Symbols.{CanBeConstants}
 use Rattle.smv_to_moxi.specs.Assembling.{symbol_scope, check_form, is_invariant, reachable_of, script_form, script_under, script_with, system_form}
 
@@ -110,9 +111,9 @@ script_same l m o p s t c d a b e f =
 abbrev pub coding_with : ℕ → (ℕ → ℕ) → Coding
 coding_with width place = record { width = width; place = place }
 
-pub coding_is : (places : List ℕ) (width : ℕ) (items : List FlatItem) (symbols : List (List ℕ)) (formulas : List FlatFormula) → (λ k. get_or places k 0) ≡ place_of_item (map item_plain items)
-    → coding_with width (λ k. get_or places k 0) ≡ coding_of (flat_in items symbols formulas) width
-coding_is places width items symbols formulas h = ap (coding_with width) h
+pub coding_is : (places : List ℕ) (width : ℕ) (parts : FlatParts) → (λ k. get_or places k 0) ≡ place_of_item (map item_plain parts.items.now)
+    → coding_with width (λ k. get_or places k 0) ≡ coding_of (parts_plain parts) width
+coding_is places width parts h = ap (coding_with width) h
 
 abbrev scope_with : List Enumeration → ScopeState
 scope_with es = record { enumerations = es; sorts = []; functions = [] }

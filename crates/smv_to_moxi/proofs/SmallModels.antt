@@ -1,4 +1,5 @@
--- The items and symbols of an accepted model are few, and the numbers of its formulas are in range.
+-- The items and symbols of an accepted model are few, its symbols can be constants, and the numbers of its formulas are in
+-- range.
 use Rattle.std.proofs.Common.{◌≡◌, ℕ, ◌≤◌, ◌<◌, ◌^◌, ◌&&◌, ◌||◌, Bool, true, false, not, List, [], ◌∷◌, codes, length, map, refl, sym, ap, ◌∙◌, subst, arith}
 use Rattle.std.specs.List.{list_any}
 use Rattle.std.proofs.Math.Bool.{Bool-set}

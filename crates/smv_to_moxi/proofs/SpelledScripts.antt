@@ -9,15 +9,17 @@ use Rattle.moxi_scripts.specs.Invariant.{IsSpelled}
 use Rattle.moxi_scripts.specs.Script.{PlainScript}
 use Rattle.smv_script.specs.Script.{script_of}
 use Rattle.smv_script_laws.specs.ValidLaws.{ScriptsAreSpelled}
-use Rattle.smv_script_terms.specs.FlatParts.{flat_in}
+use Rattle.smv_flat.specs.declared.parts.FlatParts.{FlatParts}
+use Rattle.smv_flat.specs.FlatForms.{PlainFlat}
+use Rattle.smv_flat.specs.FlatParts.{parts_plain}
 use Rattle.smv_to_moxi.specs.Assembling.{script_form}
 use Rattle.smv_to_moxi.proofs.Scripts.{script_form_is}
 
-pub parts_are : (f : FlatModel) (items : List FlatItem) (symbols : List (List ℕ)) (formulas : List FlatFormula) (width : ℕ) → items ≡ f.items → symbols ≡ f.symbols → formulas ≡ f.formulas → width ≡ f.width
-    → script_form (flat_in items symbols formulas) width ≡ script_of (flat_plain f) f.width
-parts_are f items symbols formulas width i s o w =
-    ap (λ x. script_form (flat_in x symbols formulas) width) i ∙ ap (λ x. script_form (flat_in f.items x formulas) width) s
-    ∙ ap (λ x. script_form (flat_in f.items f.symbols x) width) o ∙ ap (λ n. script_form (flat_plain f) n) w ∙ script_form_is (flat_plain f) f.width
+pub parts_are : (f : FlatModel) (parts : FlatParts) (width : ℕ) → parts.items.now ≡ f.items → parts.symbols.now ≡ f.symbols → parts.formulas.now ≡ f.formulas → width ≡ f.width
+    → script_form (parts_plain parts) width ≡ script_of (flat_plain f) f.width
+parts_are f parts width i s o w =
+    let form : parts_plain parts ≡ flat_plain f = cc in
+    ap (λ (p : PlainFlat). script_form p width) form ∙ ap (script_form (flat_plain f)) w ∙ script_form_is (flat_plain f) f.width
 
 of_model : ScriptsAreSpelled → (f : FlatModel) → IsOfModel f → IsSpelled (script_of (flat_plain f) f.width)
 of_model law f m =

@@ -24,14 +24,7 @@ pub fn to_single(alloc: Global, flat: &Flat) -> Result<SingleScript, NoMemory>
 {
     flat.is_of_model();
     let mut scope = Scope::new(alloc);
-    let single = single_in(
-        alloc,
-        flat.width(),
-        flat.items().as_slice(),
-        flat.symbols(),
-        flat.formulas().as_slice(),
-        &mut scope,
-    );
+    let single = single_in(alloc, flat.width(), flat.parts(), &mut scope);
     drop(scope);
     single
 }

@@ -6,13 +6,14 @@ ghost use Rattle.moxi_scripts.specs.Script.{plain_check, plain_formula, plain_sy
 ghost use Rattle.moxi_scripts.specs.ScriptView.{plain_script};
 ghost use Rattle.smv_items.specs.FlatItemView.{item_plain};
 ghost use Rattle.smv_flat.specs.FlatFormulas.{form_plain};
+ghost use Rattle.smv_flat.specs.FlatParts.{parts_plain};
 ghost use Rattle.smv_flat.specs.FlatView.{plain_flat};
 ghost use Rattle.smv_flat_laws.specs.FlatTruth.{forms_invariants};
 ghost use Rattle.smv_script.specs.Ranges.{excess, forms_excess};
 ghost use Rattle.smv_script.specs.Script.{coding_of, place_of_item, query_of, queries_from, reachables_from, symbol_sort};
 ghost use Rattle.smv_script_terms.specs.Depths.{depth, forms_depth};
 ghost use Rattle.smv_script_terms.specs.Questions.{codes_of, place_at};
-ghost use Rattle.smv_script_terms.specs.FlatParts.{AreFlatChains, flat_in, plain_parts};
+ghost use Rattle.smv_script_terms.specs.FlatChains.{AreFlatChains};
 ghost use Rattle.smv_to_moxi.specs.Assembling.{symbol_scope, check_form, is_invariant, reachable_of, script_form, script_under, script_with, system_form};
 ghost use Rattle.smv_to_moxi.specs.SingleView.{plain_single};
 ghost use Rattle.smv_to_moxi.specs.Symbols.{CanBeConstants};
@@ -20,10 +21,10 @@ ghost use Rattle.smv_to_moxi.specs.Symbols.{CanBeConstants};
 use moxi_scripts::{Check, Formula, Formulas, Queries, Query, Script, Subsystems, System, Systems};
 use moxi_terms::{Scope, Variable, Variables};
 use name_maps::NameSet;
-use smv_flat::{FlatFormula, Role};
+use smv_flat::{FlatFormula, FlatParts, Role};
 use smv_items::FlatItem;
 use smv_script_terms::{
-    Coding, FlatChains, FlatParts, Group, Question, flat_chains, formula_of, negate, places_of,
+    Coding, FlatChains, Group, Question, SmallFlat, flat_chains, formula_of, negate, places_of,
     terms_of, variables_in,
 };
 use smv_text::When;
@@ -73,18 +74,18 @@ fn declare_symbols(alloc: Global, scope: &mut Scope, symbols: &NameSet) -> Resul
 fn system_with<'f>(
     alloc: Global,
     coding: &Coding,
-    flat: &FlatParts<'f>,
+    flat: &SmallFlat<'f>,
     chains: &FlatChains,
 ) -> Result<System, NoMemory>
-    requires coding { codes_of coding.now ≡ coding_of (plain_parts flat.now) coding.now.width }
-    requires chains { AreFlatChains flat.now chains.now }
-    ensures { IfOk result (λ s. plain_system s ≡ system_form (plain_parts flat.now) coding.now.width) }
+    requires coding { codes_of coding.now ≡ coding_of (parts_plain flat.now.parts) coding.now.width }
+    requires chains { AreFlatChains flat.now.parts chains.now }
+    ensures { IfOk result (λ s. plain_system s ≡ system_form (parts_plain flat.now.parts) coding.now.width) }
 {
     let name = Name::of(alloc, b"main")?;
     let width = coding.width;
-    let inputs = variables_in(alloc, width, Group::Inputs, flat.items)?;
-    let outputs = variables_in(alloc, width, Group::Outputs, flat.items)?;
-    let locals = variables_in(alloc, width, Group::Locals, flat.items)?;
+    let inputs = variables_in(alloc, width, Group::Inputs, flat.parts.items)?;
+    let outputs = variables_in(alloc, width, Group::Outputs, flat.parts.items)?;
+    let locals = variables_in(alloc, width, Group::Locals, flat.parts.items)?;
     let init = formula_of(alloc, coding, When::First, flat, chains)?;
     let trans = formula_of(alloc, coding, When::Following, flat, chains)?;
     let inv = formula_of(alloc, coding, When::Always, flat, chains)?;
@@ -100,11 +101,11 @@ fn system_with<'f>(
     })
 }
 
-fn system_of<'f>(alloc: Global, coding: &Coding, flat: &FlatParts<'f>) -> Result<System, NoMemory>
-    requires { codes_of coding.now ≡ coding_of (plain_parts flat.now) coding.now.width }
-    ensures { IfOk result (λ s. plain_system s ≡ system_form (plain_parts flat.now) coding.now.width) }
+fn system_of<'f>(alloc: Global, coding: &Coding, flat: &SmallFlat<'f>) -> Result<System, NoMemory>
+    requires { codes_of coding.now ≡ coding_of (parts_plain flat.now.parts) coding.now.width }
+    ensures { IfOk result (λ s. plain_system s ≡ system_form (parts_plain flat.now.parts) coding.now.width) }
 {
-    let chains = flat_chains(alloc, flat)?;
+    let chains = flat_chains(alloc, &flat.parts)?;
     system_with(alloc, coding, flat, &chains)
 }
 
@@ -220,18 +221,18 @@ fn variables_again(alloc: Global, variables: &Variables) -> Result<Variables, No
 fn check_of<'f>(
     alloc: Global,
     coding: &Coding,
-    flat: &FlatParts<'f>,
+    flat: &SmallFlat<'f>,
     system: &System,
 ) -> Result<Check, NoMemory>
-    requires coding { codes_of coding.now ≡ coding_of (plain_parts flat.now) coding.now.width }
-    requires system { plain_system system.now ≡ system_form (plain_parts flat.now) coding.now.width }
-    ensures { IfOk result (λ c. plain_check c ≡ check_form (plain_parts flat.now) coding.now.width) }
+    requires coding { codes_of coding.now ≡ coding_of (parts_plain flat.now.parts) coding.now.width }
+    requires system { plain_system system.now ≡ system_form (parts_plain flat.now.parts) coding.now.width }
+    ensures { IfOk result (λ c. plain_check c ≡ check_form (parts_plain flat.now.parts) coding.now.width) }
 {
     let inputs = variables_again(alloc, &system.inputs)?;
     let outputs = variables_again(alloc, &system.outputs)?;
     let locals = variables_again(alloc, &system.locals)?;
-    let reachables = reachables_of(alloc, coding, flat.formulas)?;
-    let queries = queries_of(alloc, flat.formulas)?;
+    let reachables = reachables_of(alloc, coding, flat.parts.formulas)?;
+    let queries = queries_of(alloc, flat.parts.formulas)?;
     Ok(Check {
         place: Place {
             line: 1,
@@ -306,14 +307,14 @@ fn single_with(
 fn single_of_system<'f>(
     alloc: Global,
     coding: &Coding,
-    flat: &FlatParts<'f>,
+    flat: &SmallFlat<'f>,
     logic: Name,
     scope: &mut Scope,
     system: System,
 ) -> Result<SingleScript, NoMemory>
-    requires coding { codes_of coding.now ≡ coding_of (plain_parts flat.now) coding.now.width }
-    requires system { plain_system system ≡ system_form (plain_parts flat.now) coding.now.width }
-    ensures { IfOk result (λ s. plain_single s ≡ script_with logic scope.old (plain_system system) (check_form (plain_parts flat.now) coding.now.width)) }
+    requires coding { codes_of coding.now ≡ coding_of (parts_plain flat.now.parts) coding.now.width }
+    requires system { plain_system system ≡ system_form (parts_plain flat.now.parts) coding.now.width }
+    ensures { IfOk result (λ s. plain_single s ≡ script_with logic scope.old (plain_system system) (check_form (parts_plain flat.now.parts) coding.now.width)) }
 {
     match check_of(alloc, coding, flat, &system) {
         Ok(check) => Ok(single_with(alloc, logic, scope, system, check)),
@@ -329,12 +330,12 @@ fn single_of_system<'f>(
 fn single_of_scope<'f>(
     alloc: Global,
     coding: &Coding,
-    flat: &FlatParts<'f>,
+    flat: &SmallFlat<'f>,
     logic: Name,
     scope: &mut Scope,
 ) -> Result<SingleScript, NoMemory>
-    requires { codes_of coding.now ≡ coding_of (plain_parts flat.now) coding.now.width }
-    ensures { IfOk result (λ s. plain_single s ≡ script_under logic scope.old (plain_parts flat.now) coding.now.width) }
+    requires { codes_of coding.now ≡ coding_of (parts_plain flat.now.parts) coding.now.width }
+    ensures { IfOk result (λ s. plain_single s ≡ script_under logic scope.old (parts_plain flat.now.parts) coding.now.width) }
 {
     match system_of(alloc, coding, flat) {
         Ok(system) => single_of_system(alloc, coding, flat, logic, scope, system),
@@ -356,60 +357,38 @@ fn logic_of(alloc: Global) -> Result<Name, NoMemory>
 fn coded_single<'f>(
     alloc: Global,
     coding: &Coding,
-    flat: &FlatParts<'f>,
+    flat: &SmallFlat<'f>,
     scope: &mut Scope,
 ) -> Result<SingleScript, NoMemory>
     requires nothing { scope.old ≡ no_scope }
-    requires symbols { CanBeConstants flat.now.symbols.now }
-    requires coding { codes_of coding.now ≡ coding_of (plain_parts flat.now) coding.now.width }
-    ensures { IfOk result (λ s. plain_single s ≡ script_form (plain_parts flat.now) coding.now.width) }
+    requires symbols { CanBeConstants flat.now.parts.symbols.now }
+    requires coding { codes_of coding.now ≡ coding_of (parts_plain flat.now.parts) coding.now.width }
+    ensures { IfOk result (λ s. plain_single s ≡ script_form (parts_plain flat.now.parts) coding.now.width) }
 {
-    declare_symbols(alloc, scope, flat.symbols)?;
+    declare_symbols(alloc, scope, flat.parts.symbols)?;
     let logic = logic_of(alloc)?;
     single_of_scope(alloc, coding, flat, logic, scope)
 }
 
-// The script of this flat form, whose integers have this width.
-fn single_from<'f>(
-    alloc: Global,
-    width: u32,
-    flat: &FlatParts<'f>,
-    scope: &mut Scope,
-) -> Result<SingleScript, NoMemory>
-    requires nothing { scope.old ≡ no_scope }
-    requires symbols { CanBeConstants flat.now.symbols.now }
-    requires some { 1 ≤ width }
-    requires low { width ≤ 64 }
-    ensures { IfOk result (λ s. plain_single s ≡ script_form (plain_parts flat.now) width) }
-{
-    let coding = coding_of(alloc, width, flat.items)?;
-    coded_single(alloc, &coding, flat, scope)
-}
-
-/// Returns the script of a flat form with these items, symbols and formulas, whose integers have this width.
+/// Returns the script of a flat form with these parts, whose integers have this width.
 ///
 /// The scope must be empty.
-pub(crate) fn single_in(
+pub(crate) fn single_in<'f>(
     alloc: Global,
     width: u32,
-    items: &[FlatItem],
-    symbols: &NameSet,
-    formulas: &[FlatFormula],
+    parts: FlatParts<'f>,
     scope: &mut Scope,
 ) -> Result<SingleScript, NoMemory>
     requires nothing { scope.old ≡ no_scope }
-    requires few { length items.now < 2 ^ 30 }
-    requires symbols { CanBeConstants symbols.now }
-    requires deep { forms_depth (map form_plain formulas.now) < 2 ^ 32 }
-    requires in_range { forms_excess (map form_plain formulas.now) ≡ 0 }
+    requires few { length parts.items.now < 2 ^ 30 }
+    requires symbols { CanBeConstants parts.symbols.now }
+    requires deep { forms_depth (map form_plain parts.formulas.now) < 2 ^ 32 }
+    requires in_range { forms_excess (map form_plain parts.formulas.now) ≡ 0 }
     requires some { 1 ≤ width }
     requires low { width ≤ 64 }
-    ensures { IfOk result (λ s. plain_single s ≡ script_form (flat_in items.now symbols.now formulas.now) width) }
+    ensures { IfOk result (λ s. plain_single s ≡ script_form (parts_plain parts) width) }
 {
-    let flat = FlatParts {
-        items,
-        symbols,
-        formulas,
-    };
-    single_from(alloc, width, &flat, scope)
+    let flat = SmallFlat { parts };
+    let coding = coding_of(alloc, width, parts.items)?;
+    coded_single(alloc, &coding, &flat, scope)
 }

@@ -1,22 +1,13 @@
--- The flat form of which the code makes a script.
-use Rattle.std.specs.Prelude.{◌≡◌, ℕ, List, length, map, max}
-use Rattle.smv_items.specs.declared.items.FlatItem.{FlatItem}
+-- The chains of a flat form's items and formulas.
+use Rattle.std.specs.Prelude.{◌≡◌, ℕ, length, map, max}
 use Rattle.smv_items.specs.FlatItemView.{item_plain}
-use Rattle.smv_flat.specs.declared.forms.FlatFormula.{FlatFormula}
-use Rattle.smv_flat.specs.FlatForms.{PlainFlat}
+use Rattle.smv_flat.specs.declared.parts.FlatParts.{FlatParts}
 use Rattle.smv_flat.specs.FlatFormulas.{form_plain}
 use Rattle.smv_script.specs.Script.{above_forms, above_items}
 use Rattle.smv_script_terms.specs.declared.chains.Chains.{Chains}
-use Rattle.smv_script_terms.specs.declared.flat_parts.FlatParts.{FlatParts}
 use Rattle.smv_script_terms.specs.declared.formulas.FlatChains.{FlatChains}
 use Rattle.smv_script_terms.specs.Chains.{AreChains}
 use Rattle.smv_script_terms.specs.Parts.{body_number_of, form_number, item_number}
-
-abbrev pub flat_in : List FlatItem → List (List ℕ) → List FlatFormula → PlainFlat
-flat_in items symbols formulas = record { items = map item_plain items; symbols = symbols; forms = map form_plain formulas }
-
-abbrev pub plain_parts : FlatParts → PlainFlat
-plain_parts s = flat_in s.items.now s.symbols.now s.formulas.now
 
 -- one more than the greatest number of an instance
 abbrev pub instance_count : FlatParts → ℕ
