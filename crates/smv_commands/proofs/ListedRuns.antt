@@ -12,8 +12,9 @@ use Rattle.smv_judge.specs.Models.{IsListedRun}
 use Rattle.smv_rows.specs.Listed.{is_in_state, are_named_after, lists_state, lists_label}
 use Rattle.smv_rows.specs.RowOrders.{is_input}
 use Rattle.smv_trace.specs.Answer.{declarations_of}
-use Rattle.smv_trace.specs.Runs.{Declarations, IsStatedRun, can_be_stated, names_each, names_variables, picks}
-use Rattle.smv_trace.specs.declared.heading.Heading.TheVariants.{State, Input}
+use Rattle.smv_trace.specs.Runs.{Declarations, IsStatedRun, can_be_stated, names_each, names_variables}
+use Rattle.smv_numbered.specs.Values.{picks}
+use Rattle.smv_numbered.specs.declared.heading.Heading.TheVariants.{State, Input}
 
 named_after : (symbols : List (List ℕ)) (ms : List PlainFlatItem) (gs : List Given) → names_each symbols ms gs ≡ true → are_named_after ms gs ≡ true
 named_after symbols [] [] h = refl

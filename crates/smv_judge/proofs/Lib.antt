@@ -3,3 +3,4 @@ pub mod FitLaws
 pub mod StepLaws
 pub mod Takes
 pub mod ListedLaws
+pub mod StatedRuns

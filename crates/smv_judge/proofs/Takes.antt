@@ -1,9 +1,6 @@
 -- Rows that are handed on one after another.
-use Rattle.std.proofs.Common.{◌≡◌, true, ◌==◌, List, [], ◌∷◌, ◌++◌, length, Result, Ok, Err, IfOk, sym, subst, arith}
+use Rattle.std.proofs.Common.{◌≡◌, true, ◌==◌, List, [], ◌∷◌, ◌++◌, length, sym, subst, arith}
 use Rattle.std.proofs.lemmas.List.{append_assoc}
-use Rattle.text_core.specs.declared.errors.NoMemory.{NoMemory}
-use Rattle.text_core.specs.declared.verdict.Verdict.{Verdict}
-use Rattle.text_core.specs.declared.verdict.Verdict.TheVariants.{Yes}
 use Rattle.smv_meaning.specs.declared.value.Given.{Given}
 use Rattle.smv_meaning.specs.Values.{Valuation, given}
 use Rattle.smv_flat.specs.FlatForms.{PlainFlat}
@@ -40,10 +37,3 @@ pub all_taken : (old new : List Row → Type 0) (flat : PlainFlat) (last : List 
 all_taken old new flat last all labels s [] [] a b h t = record { rows = t.rows ++ h.0 ∷ []; taken = h.2 t.rows t.taken; are = t.goes_on (h.0 ∷ []) (h.1, tt) }
 all_taken old new flat last all labels s [] (l ∷ left) a b h t = let z : length (l ∷ left) ≡ 0 = same (length (l ∷ left)) 0 b in absurd (omega (arith, z))
 all_taken old new flat last all labels s (x ∷ states) left a b h t = absurd (omega (arith, a))
-
--- what is told of the steps behind the first state is told of the run
-pub parts_taken : (took : List Row → Type 0) (flat : PlainFlat) (last : List Given) (result : Result Verdict NoMemory) (one all behind labels : List (List Given)) → all ≡ one → behind ≡ labels
-    → IfOk result (λ v. v ≡ Yes → HasTaken took flat last one behind) → IfOk result (λ v. v ≡ Yes → HasTaken took flat last all labels)
-parts_taken took flat last (Ok v) one all behind labels e f h = λ y.
-    subst (λ (ls : List (List Given)). HasTaken took flat last all ls) f (subst (λ (ss : List (List Given)). HasTaken took flat last ss behind) (sym e) (h y))
-parts_taken took flat last (Err x) one all behind labels e f h = tt

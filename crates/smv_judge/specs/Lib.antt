@@ -2,3 +2,4 @@ pub mod Fits
 pub mod Labels
 pub mod Models
 pub mod Taken
+pub mod Stated

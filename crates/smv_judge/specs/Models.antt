@@ -18,8 +18,8 @@ use Rattle.smv_operators.specs.declared.seen.Seen.{Seen}
 use Rattle.smv_flat_evaluation.specs.RowValues.{row_values}
 use Rattle.smv_flatten.specs.FlatModel.{IsRead}
 use Rattle.smv_flat.specs.declared.parts.FlatParts.{FlatParts}
-use Rattle.smv_rows.specs.declared.order.RowOrder.{RowOrder}
-use Rattle.smv_rows.specs.Listed.{lists_state, lists_label, AreListed}
+use Rattle.smv_rows.specs.Listed.{lists_state, lists_label}
+use Rattle.smv_rows.specs.Places.{IsGiven}
 use Rattle.smv_flat.specs.FlatParts.{parts_plain}
 
 -- a text spells the model, its checks hold, and this is its flat form
@@ -63,16 +63,28 @@ pub record IsStateRow (flat : FlatParts) (state : Valuation) (values : List Seen
   pub state_fits : StateFits flat state
   pub label_fits : LabelFits flat label
 
+-- the variables have the values of a state and of a label whose values are of the declared types
+pub record IsFirstRow (flat : FlatParts) (state label : Valuation) (values : List Seen) : Type 0 where
+  pub given : IsGiven flat.items.now state label values
+  pub label_fits : LabelFits flat label
+
+-- a row of a state, and the values of the variables in the following state, under the label that leads to it
+pub record AreStepRows (flat : FlatParts) (state label following : Valuation) (before values : List Seen) : Type 0 where
+  pub row_before : IsStateRow flat state before
+  pub given : IsGiven flat.items.now following label values
+
+-- a row of a state under some label, and values with the inputs of another label
+pub record AreLastRows (flat : FlatParts) (state label after : Valuation) (values inputs : List Seen) : Type 0 where
+  pub row : IsStateRow flat state values
+  pub given_inputs : IsGiven flat.items.now after label inputs
+  pub label_fits : LabelFits flat label
+
 -- ---- states and labels that name their variables in the order of the items
 
 -- all of a run's states and labels
 pub record IsListedRun (flat : PlainFlat) (run : Run) : Type 0 where
   pub states : AllByRecursion (λ s. lists_state flat.items s ≡ true) run.states
   pub labels : AllByRecursion (λ l. lists_label flat.items l ≡ true) run.labels
-
--- where values are given in order, these are
-abbrev pub CanGive : FlatParts → RowOrder → (state label : List Given) → Type 0
-CanGive flat order state label = order.listed ≡ true → AreListed (parts_plain flat).items state label
 
 -- these states, their labels and the last label
 pub record AllListed (items : List PlainFlatItem) (states labels : List (List Given)) (last : List Given) : Type 0 where

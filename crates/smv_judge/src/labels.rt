@@ -10,7 +10,7 @@ use smv_items::{FlatItem, ItemKind};
 use smv_meaning::{Given, State, Value};
 use smv_text::Member;
 use std::alloc::Global;
-use text_core::{Name, NoMemory};
+use text_core::{List, Name, NoMemory};
 use word_core::Word;
 
 fn of_type(ty: Ty) -> Value
@@ -60,4 +60,17 @@ pub fn first_label(alloc: Global, items: &[FlatItem]) -> Result<State, NoMemory>
         rest = more;
     }
     Ok(label)
+}
+
+/// Returns the first value of each item's type.
+pub(crate) fn first_values(alloc: Global, items: &[FlatItem]) -> Result<List<Value>, NoMemory>
+    ensures { IfOk result (λ values. values ≡ map (λ m. first_of m.type m.members) (map item_plain items.now)) }
+{
+    let mut values = List::new(alloc);
+    let mut rest = items;
+    while let Some((item, more)) = rest.split_first() {
+        values.push(first_value(alloc, item)?)?;
+        rest = more;
+    }
+    Ok(values)
 }

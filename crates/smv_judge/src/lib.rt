@@ -4,9 +4,12 @@
 mod fits;
 mod judge;
 mod labels;
+mod stated;
 mod steps;
 mod taken;
 
-pub use judge::{judge_flat, judge_listed, judge_rows, judge_smv};
+pub use judge::{
+    judge_flat, judge_listed, judge_numbered, judge_numbered_rows, judge_rows, judge_smv,
+};
 pub use labels::first_label;
 pub use taken::TakesRows;

@@ -8,7 +8,7 @@ use Rattle.name_maps.specs.Names.{place_of}
 use Rattle.name_maps.specs.Tables.{AreDistinct}
 use Rattle.smv_meaning.specs.declared.value.Value.{Value}
 use Rattle.smv_meaning.specs.declared.value.Given.{Given}
-use Rattle.smv_meaning.specs.Values.{Valuation, no_value, given}
+use Rattle.smv_meaning.specs.Values.{Valuation, given}
 use Rattle.smv_meaning.specs.laws.Booleans.{both_true, absurd_bool}
 use Rattle.smv_items.specs.declared.items.ItemKind.{ItemKind}
 use Rattle.smv_items.specs.declared.items.ItemKind.TheVariants.{State, Frozen, Input, Define, Actual}
@@ -20,7 +20,8 @@ use Rattle.smv_operators.specs.View.{seen_value}
 use Rattle.smv_flat_laws.specs.FlatTruth.{GivesKind, GivesItem}
 use Rattle.smv_flat_laws.proofs.FlatPlaces.{position_cons}
 use Rattle.smv_flat_evaluation.specs.RowValues.{seen_or_none, row_values}
-use Rattle.smv_rows.specs.Listed.{is_in_state, are_named_after, lists_state, lists_label, AreListed, first_given, behind_first, next_value, state_left, label_left, listed_values}
+use Rattle.smv_rows.specs.Listed.{is_in_state, are_named_after, lists_state, lists_label, AreListed, next_value, state_left, label_left, listed_values}
+use Rattle.smv_rows.specs.Numbered.{value_or_none}
 use Rattle.smv_rows.specs.Places.{IsGiven}
 use Rattle.smv_rows.specs.RowOrders.{is_input}
 
@@ -34,7 +35,7 @@ later false (Some n) k h = let e : n ≡ k = cc in (refl, ap Some e)
 behind : (x : List ℕ) (xs : List (List ℕ)) → AreDistinct (x ∷ xs) → (k : ℕ) (y : List ℕ) → slice_get xs k ≡ Some y → (bytes_eq y x ≡ false) × (place_of xs y ≡ Some k)
 behind x xs d k y e = later (bytes_eq y x) (place_of xs y) k (sym (position_cons (bytes_eq y) x xs) ∙ d (suc k) y e)
 
-rest_distinct : (x : List ℕ) (xs : List (List ℕ)) → AreDistinct (x ∷ xs) → AreDistinct xs
+pub rest_distinct : (x : List ℕ) (xs : List (List ℕ)) → AreDistinct (x ∷ xs) → AreDistinct xs
 rest_distinct x xs d k y e = (behind x xs d k y e).1
 
 -- the first of these names is that of the first value
@@ -59,10 +60,6 @@ passed x y g gs e h = sym (ap (λ b. if b then g.value else given gs y) (apart (
 
 -- ---- values
 
-abbrev value_or_none : Option Value → Value
-value_or_none None = no_value
-value_or_none (Some v) = v
-
 abbrev At : List PlainFlatItem → (s l : List Given) → (t u : Valuation) → ℕ → Type 0
 At items s l t u k = GivesItem t u (value_or_none (slice_get (listed_values (map (λ m. m.kind) items) s l) k)) (slice_get items k)
 
@@ -78,7 +75,7 @@ item_moves s t l u v None e h = tt
 item_moves s t l u v (Some m) e h = let same = e m refl in kind_moves s t l u m.name v m.kind same.0 same.1 h
 
 -- the name of an item behind the first differs from the first one's
-apart_from : (m : PlainFlatItem) (ms : List PlainFlatItem) → AreDistinct (map (λ i. i.name) (m ∷ ms)) → (k : ℕ) (o : PlainFlatItem) → slice_get ms k ≡ Some o → bytes_eq o.name m.name ≡ false
+pub apart_from : (m : PlainFlatItem) (ms : List PlainFlatItem) → AreDistinct (map (λ i. i.name) (m ∷ ms)) → (k : ℕ) (o : PlainFlatItem) → slice_get ms k ≡ Some o → bytes_eq o.name m.name ≡ false
 apart_from m ms d k o e =
     (behind m.name (map (λ (i : PlainFlatItem). i.name) ms) d k o.name (slice_get-map (λ (i : PlainFlatItem). i.name) ms k ∙ ap (option_map (λ (i : PlainFlatItem). i.name)) e)).0
 
@@ -132,7 +129,7 @@ seen_is : (o : Option Seen) → value_or_none (option_map seen_value o) ≡ seen
 seen_is None = refl
 seen_is (Some v) = refl
 
-value_is : (values : List Seen) (k : ℕ) → value_or_none (slice_get (map seen_value values) k) ≡ row_values values k
+pub value_is : (values : List Seen) (k : ℕ) → value_or_none (slice_get (map seen_value values) k) ≡ row_values values k
 unfolding row_values
 value_is values k = ap value_or_none (slice_get-map seen_value values k) ∙ seen_is (slice_get values k)
 

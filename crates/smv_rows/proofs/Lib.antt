@@ -10,4 +10,6 @@ pub mod VariableRows
 pub mod RowLaw
 pub mod Relabelled
 pub mod InOrder
+pub mod Numbered
+pub mod Copies
 pub mod Inputs

@@ -13,9 +13,8 @@ use Rattle.smv_operators.specs.declared.seen.Seen.{Seen}
 use Rattle.smv_flat_laws.specs.FlatTruth.{Row, GivesKind, GivesItem, IsRow}
 use Rattle.smv_flat_evaluation.specs.RowValues.{row_values}
 use Rattle.smv_rows.specs.Places.{IsGiven}
-use Rattle.smv_rows.specs.Relabelling.{input_or, Relabels}
+use Rattle.smv_rows.specs.Relabelling.{input_or}
 use Rattle.smv_rows.specs.RowOrders.{IsRowOrder, is_input, has_inputs}
-use Rattle.smv_rows.specs.Truths.{Fills}
 use Rattle.smv_rows.specs.declared.order.RowOrder.{RowOrder}
 use Rattle.smv_flat.specs.declared.parts.FlatParts.{FlatParts}
 use Rattle.smv_flat.specs.FlatParts.{parts_plain}
@@ -63,6 +62,16 @@ inputs_given flat s before label after old other new size row also same are = re
       subst (λ v. GivesItem s label v (option_map item_plain (slice_get flat.items.now k))) (sym (are k))
       (item_joined s before label after (row_values other k) (row_values old k) (slice_get flat.items.now k)
       (subst (GivesItem s before (row_values old k)) (slice_get-map item_plain flat.items.now k) (row.variables k)) (also.variables k));
+}
+
+-- the same before the bodies have values
+pub inputs_joined : (flat : FlatParts) (s before label after : Valuation) (old other read new : List Seen) → read ≡ other → IsGiven flat.items.now s before old → IsGiven flat.items.now after label other
+    → length new ≡ length old → ((k : ℕ) → row_values new k ≡ input_or (slice_get flat.items.now k) (row_values read k) (row_values old k)) → IsGiven flat.items.now s label new
+inputs_joined flat s before label after old other read new e given also same are = record {
+  size = same ∙ given.size;
+  variables = λ k.
+      subst (λ v. GivesItem s label v (option_map item_plain (slice_get flat.items.now k))) (sym (are k ∙ ap (λ xs. input_or (slice_get flat.items.now k) (row_values xs k) (row_values old k)) e))
+      (item_joined s before label after (row_values other k) (row_values old k) (slice_get flat.items.now k) (given.variables k) (also.variables k));
 }
 
 -- the same of what the code reads of the other row

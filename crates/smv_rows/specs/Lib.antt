@@ -4,3 +4,4 @@ pub mod RowOrders
 pub mod Listed
 pub mod Relabelling
 pub mod Truths
+pub mod Numbered

@@ -1,5 +1,5 @@
 -- Rows of one state under two labels.
-use Rattle.std.specs.Prelude.{◌≡◌, ℕ, if◌then◌else◌, List, length, Option, Some, None}
+use Rattle.std.specs.Prelude.{◌≡◌, if◌then◌else◌, List, length, Option, Some, None}
 use Rattle.smv_meaning.specs.declared.value.Value.{Value}
 use Rattle.smv_meaning.specs.Values.{Valuation}
 use Rattle.smv_operators.specs.declared.seen.Seen.{Seen}

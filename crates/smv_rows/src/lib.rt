@@ -2,6 +2,7 @@
 #![tactic(auto)]
 
 mod bodies;
+mod carried;
 mod listed;
 mod order;
 mod places;
@@ -9,6 +10,7 @@ mod row;
 mod truth;
 mod variables;
 
+pub use carried::Carried;
 pub use order::{RowOrder, row_order};
 pub use places::ItemPlace;
 pub use row::Row;

@@ -1,5 +1,6 @@
 // Rows of values, refilled for each state.
-ghost use Rattle.std.specs.Prelude.{◌≡◌, ◌<◌, true, length, nat_lt, OnOk};
+ghost use Rattle.std.specs.Prelude.{◌≡◌, ◌<◌, true, length, map, nat_lt, OnOk};
+ghost use Rattle.name_maps.specs.Tables.{AreDistinct};
 ghost use Rattle.std.specs.List.{list_all};
 ghost use Rattle.smv_meaning.specs.Values.{given};
 ghost use Rattle.smv_flat_laws.specs.FlatTruth.{symbol_value};
@@ -7,11 +8,13 @@ ghost use Rattle.smv_flat_evaluation.specs.RowValues.{row_values};
 ghost use Rattle.smv_rows.specs.Filling.{body_plain, bodies_in, with_body, filled, BodySafe, FillsSafely};
 ghost use Rattle.smv_rows.specs.Listed.{AreListed};
 ghost use Rattle.smv_flat.specs.FlatParts.{parts_plain};
+ghost use Rattle.smv_rows.specs.Numbered.{CarriesValues, GivesInputs};
 ghost use Rattle.smv_rows.specs.Places.{IsGiven};
 ghost use Rattle.smv_rows.specs.Relabelling.{CanRelabel, Relabels};
 ghost use Rattle.smv_rows.specs.RowOrders.{IsRowOrder};
 ghost use Rattle.smv_rows.specs.Truths.{Gives, CanFill, Fills};
 
+use crate::carried::Carried;
 use crate::listed::{give_inputs, give_listed};
 use crate::order::RowOrder;
 use crate::variables::{give_names, give_variables};
@@ -94,6 +97,29 @@ impl<'a> Row<'a> {
         } else {
             self.give_named(order, state, label)
         }
+    }
+
+    /// Sets each variable to the value that is carried for it.
+    ///
+    /// Refilling a row takes no more memory.
+    pub fn give_carried(
+        &mut self,
+        flat: &FlatParts<'a>,
+        carried: &Carried<'a>,
+    ) -> Result<(), NoMemory>
+        requires { AreDistinct (map (λ m. m.name) (parts_plain flat.now).items) }
+        ensures { OnOk result (CarriesValues flat.now carried.now self.new.values.items) }
+    {
+        carried.copy_into(&mut self.values)?;
+        Ok(())
+    }
+
+    /// Sets each input to its value in the other row.
+    pub fn give_inputs(&mut self, flat: &FlatParts<'a>, other: &Row<'a>)
+        requires { length self.old.values.items ≡ length flat.now.items.now }
+        ensures { GivesInputs flat.now self.old.values.items other.now.values.items self.new.values.items }
+    {
+        give_inputs(flat.items, other.values.as_slice(), &mut self.values);
     }
 
     /// Sets each definition and actual to the value of its body.

@@ -1,6 +1,7 @@
 pub mod Lists
 pub mod LineLaws
 pub mod Steps
+pub mod Numbered
 pub mod Literals
 pub mod Sound
 pub mod Unique

@@ -18,10 +18,11 @@ use Rattle.smv_items.specs.declared.items.ItemKind.TheVariants as kind
 use Rattle.smv_items.specs.FlatItems.{PlainFlatItem}
 use Rattle.smv_trace_text.specs.Lines.{lines_of, behind_line}
 use Rattle.smv_trace_text.specs.Texts.{is_input, has_inputs, value_line, heading_text, state_text, label_text, following_text, steps_text, claim_front, claim_back, trace_text}
-use Rattle.smv_trace.specs.declared.heading.Heading.{Heading}
-use Rattle.smv_trace.specs.declared.heading.Heading.TheVariants.{State, Input}
-use Rattle.smv_trace.specs.Runs.{Declarations, picks, names_each, names_variables}
-use Rattle.smv_trace.specs.Reading.{Reading, go_on, refused, is_empty, lacks, given_if, values_of, lacks_state, labels_on, with_state, ended, most_states, most_values, variables_of, is_within, run_of, finished, nothing_stated, begin}
+use Rattle.smv_numbered.specs.declared.heading.Heading.{Heading}
+use Rattle.smv_numbered.specs.declared.heading.Heading.TheVariants.{State, Input}
+use Rattle.smv_trace.specs.Runs.{Declarations, names_each, names_variables}
+use Rattle.smv_numbered.specs.Values.{picks, given_if, values_of, nothing_stated}
+use Rattle.smv_trace.specs.Reading.{Reading, go_on, refused, is_empty, lacks, lacks_state, labels_on, with_state, ended, most_states, most_values, variables_of, is_within, run_of, finished, begin}
 use Rattle.smv_trace.specs.Texts.{lines_read, most_bytes}
 use Rattle.smv_trace.specs.ReadBack.{ReadsBack}
 use Rattle.smv_trace.proofs.Steps.{passed_step}

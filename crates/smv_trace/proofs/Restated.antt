@@ -13,10 +13,11 @@ use Rattle.smv_meaning.specs.declared.value.Given.{Given}
 use Rattle.smv_items.specs.declared.items.ItemKind.{ItemKind}
 use Rattle.smv_items.specs.declared.items.ItemKind.TheVariants as kind
 use Rattle.smv_items.specs.FlatItems.{PlainFlatItem}
-use Rattle.smv_trace.specs.declared.heading.Heading.{Heading}
-use Rattle.smv_trace.specs.declared.heading.Heading.TheVariants.{State, Input}
-use Rattle.smv_trace.specs.Runs.{picks, can_be_stated, names_each}
-use Rattle.smv_trace.specs.Reading.{lacks, given_if, values_of}
+use Rattle.smv_numbered.specs.declared.heading.Heading.{Heading}
+use Rattle.smv_numbered.specs.declared.heading.Heading.TheVariants.{State, Input}
+use Rattle.smv_trace.specs.Runs.{can_be_stated, names_each}
+use Rattle.smv_numbered.specs.Values.{picks, given_if, values_of}
+use Rattle.smv_trace.specs.Reading.{lacks}
 
 -- ---- a name's place
 

@@ -3,7 +3,7 @@ use Rattle.std.proofs.Common.{◌≡◌, ℕ, zero, suc, ◌+◌, ◌-◌, ◌�
 use Rattle.std.specs.Prelude.{slice_get, is_some, option_map, option_and_then, codes, ℤ, pos, neg_ℤ, int_le, nat_le, IfOk}
 use Rattle.std.specs.List.{filter, list_all}
 use Rattle.std.proofs.lemmas.Bool.Decides.{nat_tests}
-use Rattle.std.proofs.lemmas.List.{length-append}
+use Rattle.std.proofs.lemmas.List.{length-append, length-map}
 use Rattle.std.proofs.lemmas.List.Folds.{list_all-append}
 use Rattle.std.proofs.lemmas.Slice.Eq.{bytes_eq-Decides}
 use Rattle.text_core.specs.declared.place.Place.{Place}
@@ -19,14 +19,17 @@ use Rattle.smv_meaning.specs.declared.value.Run.{Run}
 use Rattle.smv_meaning.specs.Types.{ExprType, truth_type, integer_type, symbol_type, word_type}
 use Rattle.smv_items.specs.FlatItems.{PlainFlatItem}
 use Rattle.name_maps.specs.Names.{place_of}
-use Rattle.smv_trace.specs.declared.heading.Heading.{Heading}
-use Rattle.smv_trace.specs.declared.heading.Heading.TheVariants.{State, Input}
-use Rattle.smv_trace.specs.Runs.{Declarations, picks, can_be_stated, names_each, names_variables, IsStatedRun}
+use Rattle.smv_numbered.specs.declared.heading.Heading.{Heading}
+use Rattle.smv_numbered.specs.declared.heading.Heading.TheVariants.{State, Input}
+use Rattle.smv_trace.specs.Runs.{Declarations, can_be_stated, names_each, names_variables, IsStatedRun}
+use Rattle.smv_numbered.specs.Values.{picks, given_if, values_of, nothing_stated}
 use Rattle.smv_trace_text.specs.Lines.{is_passed, heading_numbers, value_parts, behind_line, trimmed, lines_of}
 use Rattle.smv_trace.specs.Values.{truth_of, negative_of, integer_of, symbol_at, word_as, value_of}
-use Rattle.smv_trace.specs.Reading.{Reading, go_on, refused, is_empty, lacks, given_if, values_of, lacks_state, labels_on, with_state, ended, is_within, is_numbered, is_allowed, begun, heading_line, is_define, with_value, item_line, placed_line, value_step, label_step, other_step, state_step, step, run_of, finished_at, finished, nothing_stated, begin}
+use Rattle.smv_trace.specs.Reading.{Reading, go_on, refused, is_empty, lacks, lacks_state, labels_on, with_state, ended, is_within, is_numbered, is_allowed, begun, heading_line, is_define, with_value, item_line, placed_line, value_step, label_step, other_step, state_step, step, run_of, finished_at, finished, begin}
 use Rattle.text_core.specs.declared.end.End.{End}
-use Rattle.smv_trace.specs.Answer.{Answers}
+use Rattle.smv_numbered.specs.declared.run.NumberedRun.{NumberedRun}
+use Rattle.smv_numbered.specs.Runs.{run_in, state_at}
+use Rattle.smv_trace.specs.Answer.{Answers, StatesRun}
 use Rattle.smv_trace.specs.Texts.{lines_read, most_bytes, trace_of}
 use Rattle.smv_trace.proofs.Literals.{literal_is_word, word_of}
 use Rattle.smv_lex.proofs.LexedAgain.{some_same}
@@ -328,3 +331,12 @@ stated_from d text (Err e) h = tt
 pub within_from : (d : Declarations) (text : List ℕ) (r : Result Run End) → Answers (trace_of d text) r → IfOk r (λ run. is_within d (length run.states) ≡ true)
 within_from d text (Ok run) h = (trace_good d text run h).1
 within_from d text (Err e) h = tt
+
+-- the same of a run by the numbers of the items
+pub numbered_stated : (d : Declarations) (text : List ℕ) (r : Result NumberedRun End) → StatesRun d.items (trace_of d text) r → IfOk r (λ run. IsStatedRun d (run_in d.items run))
+numbered_stated d text (Ok run) h = (trace_good d text (run_in d.items run) h).0
+numbered_stated d text (Err e) h = tt
+
+pub numbered_within : (d : Declarations) (text : List ℕ) (r : Result NumberedRun End) → StatesRun d.items (trace_of d text) r → IfOk r (λ run. is_within d (length run.ends) ≡ true)
+numbered_within d text (Ok run) h = subst (λ (n : ℕ). is_within d n ≡ true) (length-map run.ends (state_at d.items run.changes)) (trace_good d text (run_in d.items run) h).1
+numbered_within d text (Err e) h = tt

@@ -7,11 +7,12 @@ use Rattle.text_core.specs.declared.place.Place.{Place}
 use Rattle.text_core.specs.declared.place.Refusal.{Refusal}
 use Rattle.text_core.specs.declared.end.End.{End}
 use Rattle.text_core.specs.declared.end.End.TheVariants.{Bad, NoMemory}
-use Rattle.smv_trace.specs.declared.heading.Heading.{Heading}
-use Rattle.smv_trace.specs.declared.heading.Heading.TheVariants.{State, Input}
+use Rattle.smv_numbered.specs.declared.heading.Heading.{Heading}
+use Rattle.smv_numbered.specs.declared.heading.Heading.TheVariants.{State, Input}
 use Rattle.smv_meaning.specs.declared.value.Value.{Value}
 use Rattle.smv_items.specs.FlatItems.{PlainFlatItem}
-use Rattle.smv_trace.specs.Runs.{Declarations, picks}
+use Rattle.smv_trace.specs.Runs.{Declarations}
+use Rattle.smv_numbered.specs.Values.{picks}
 use Rattle.smv_trace.specs.Values.{value_of}
 use Rattle.smv_trace_text.specs.Lines.{is_passed, heading_numbers}
 use Rattle.smv_trace.specs.Reading.{Reading, go_on, ended, is_define, with_value, item_line, heading_line, other_step, state_step, step, run_of, finished_at, finished}

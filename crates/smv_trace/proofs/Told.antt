@@ -19,12 +19,11 @@ use Rattle.smv_meaning.specs.Instances.{Instance, instances_of}
 use Rattle.smv_meaning.specs.Phases.{IsAccepted}
 use Rattle.smv_items.specs.FlatItemView.{item_plain}
 use Rattle.smv_items.specs.FlatItems.{origins_of, symbols_of, flat_item_of, PlainFlatItem}
-use Rattle.smv_flat.specs.FlatForms.{PlainFlat, flat_smv}
+use Rattle.smv_flat.specs.FlatForms.{flat_smv}
 use Rattle.smv_flatten.specs.FlatModel.{FlatModel, IsOfModel}
 use Rattle.smv_accepted.specs.Names.{is_name_byte, is_dotted_byte, IsIdentifier, IsDottedName}
 use Rattle.smv_accepted.specs.NameLaws.{item_names}
 use Rattle.smv_accepted.proofs.ItemNames.{names_differ_law, names_are_words_law, symbols_are_words_law}
-use Rattle.smv_accepted.proofs.Symbols.{symbols_differ_law}
 use Rattle.smv_trace_text.specs.Texts.{trace_text}
 use Rattle.smv_trace.specs.Runs.{Declarations}
 use Rattle.smv_trace.specs.ReadBack.{ReadsBack, declared_by, PrintedReadsBack}
@@ -99,9 +98,6 @@ pub printed_again : {E : Type 0} (f : FlatModel) → ∥ IsOfModel f ∥₁ → 
 printed_again f m j run (Ok text) h = subst (λ (text : List ℕ). ReadsBack (declarations_of f) run text) (sym h) (model_reads_back f m j run)
 printed_again f m j run (Err e) h = tt
 
--- the names of a model's items differ, and so do its symbols
+-- the names of a model's items differ
 pub names_fresh : (f : FlatModel) → ∥ IsOfModel f ∥₁ → are_fresh [] (map (λ (m : PlainFlatItem). m.name) (map item_plain f.items)) ≡ true
 names_fresh f m = (told_tests (declarations_of f) (∥∥₁_elim m (Bool-set (tells (declarations_of f)) true) (model_told f))).fresh
-
-pub symbols_fresh : (f : FlatModel) → ∥ IsOfModel f ∥₁ → are_fresh [] f.symbols ≡ true
-symbols_fresh f m = ∥∥₁_elim m (Bool-set (are_fresh [] f.symbols) true) (λ k. ap (λ (p : PlainFlat). are_fresh [] p.symbols) k.form ∙ symbols_differ_law (instances_of k.source))

@@ -1,11 +1,14 @@
 -- What the reader answers.
-use Rattle.std.specs.Prelude.{◌≡◌, Result, Ok, Err, map}
+use Rattle.std.specs.Prelude.{◌≡◌, List, Result, Ok, Err, map}
 use Rattle.text_core.specs.declared.place.Place.{Place}
 use Rattle.text_core.specs.declared.place.Kind.TheVariants.{Y}
 use Rattle.text_core.specs.declared.place.Refusal.{Refusal}
 use Rattle.text_core.specs.declared.end.End.{End}
 use Rattle.text_core.specs.declared.end.End.TheVariants.{Bad, NoMemory}
 use Rattle.smv_items.specs.FlatItemView.{item_plain}
+use Rattle.smv_items.specs.FlatItems.{PlainFlatItem}
+use Rattle.smv_numbered.specs.declared.run.NumberedRun.{NumberedRun}
+use Rattle.smv_numbered.specs.Runs.{run_in}
 use Rattle.smv_flatten.specs.FlatModel.{FlatModel}
 use Rattle.smv_meaning.specs.declared.value.Run.{Run}
 use Rattle.smv_trace.specs.declared.fault.ValueFault.{ValueFault}
@@ -30,6 +33,12 @@ abbrev pub Finishes : {B : Type 0} → Result Run Refusal → Reading → Result
 Finishes wanted new (Ok done) = wanted ≡ run_of new
 Finishes wanted new (Err (Bad refusal)) = wanted ≡ Err refusal
 Finishes wanted new (Err NoMemory) = Unit {0}
+
+-- the same of a run by the numbers of these items
+abbrev pub StatesRun : List PlainFlatItem → Result Run Refusal → Result NumberedRun End → Type 0
+StatesRun items wanted (Ok run) = wanted ≡ Ok (run_in items run)
+StatesRun items wanted (Err (Bad refusal)) = wanted ≡ Err refusal
+StatesRun items wanted (Err NoMemory) = Unit {0}
 
 -- how the reading ends where a line with a value at this place isn't taken
 abbrev pub end_at : Place → ValueFault → End

@@ -1,6 +1,7 @@
 pub mod Runs
 pub mod Values
 pub mod Reading
+pub mod Numbering
 pub mod Texts
 pub mod ReadBack
 pub mod Examples

@@ -1,5 +1,5 @@
 -- What each line of a trace does, by where its reading stands.
-use Rattle.std.specs.Prelude.{◌+◌, ◌*◌, ℕ, Bool, true, false, not, ◌&&◌, ◌||◌, nat_le, if◌then◌else◌, Option, Some, None, is_none, Result, Ok, Err, List, [], ◌∷◌, ◌++◌, length, map, codes, decimal, replicate, slice_get, slice_set}
+use Rattle.std.specs.Prelude.{◌+◌, ◌*◌, ℕ, Bool, true, false, not, ◌&&◌, ◌||◌, nat_le, if◌then◌else◌, Option, Some, None, is_none, Result, Ok, Err, List, [], ◌∷◌, ◌++◌, length, map, codes, decimal, slice_get, slice_set}
 use Rattle.std.specs.List.{filter}
 use Rattle.std.specs.Str.{bytes_eq}
 use Rattle.text_core.specs.declared.place.Place.{Place}
@@ -13,9 +13,10 @@ use Rattle.smv_items.specs.declared.items.ItemKind.TheVariants as kind
 use Rattle.smv_items.specs.FlatItems.{PlainFlatItem}
 use Rattle.name_maps.specs.Names.{place_of}
 use Rattle.text_core.specs.Places.{start}
-use Rattle.smv_trace.specs.declared.heading.Heading.{Heading}
-use Rattle.smv_trace.specs.declared.heading.Heading.TheVariants.{State, Input}
-use Rattle.smv_trace.specs.Runs.{Declarations, picks}
+use Rattle.smv_numbered.specs.declared.heading.Heading.{Heading}
+use Rattle.smv_numbered.specs.declared.heading.Heading.TheVariants.{State, Input}
+use Rattle.smv_numbered.specs.Values.{picks, values_of, nothing_stated}
+use Rattle.smv_trace.specs.Runs.{Declarations}
 use Rattle.smv_trace_text.specs.Lines.{is_passed, heading_numbers, value_parts}
 use Rattle.smv_trace.specs.Values.{value_of}
 
@@ -47,16 +48,6 @@ abbrev pub lacks : Heading → List PlainFlatItem → List (Option Value) → Bo
 lacks heading [] vs = false
 lacks heading (m ∷ ms) [] = false
 lacks heading (m ∷ ms) (v ∷ vs) = (picks heading m.kind && is_none v) || lacks heading ms vs
-
-abbrev pub given_if : Bool → List ℕ → Option Value → List Given
-given_if true x (Some v) = record { name = x; value = v } ∷ []
-given_if picked x v = []
-
--- the values of the variables of the heading, in order
-abbrev pub values_of : Heading → List PlainFlatItem → List (Option Value) → List Given
-values_of heading [] vs = []
-values_of heading (m ∷ ms) [] = []
-values_of heading (m ∷ ms) (v ∷ vs) = given_if (picks heading m.kind) m.name v ++ values_of heading ms vs
 
 -- a value is missing of the state, or of the label that leads to it where it isn't the first
 abbrev pub lacks_state : Declarations → Reading → Bool
@@ -183,8 +174,5 @@ unfoldable pub finished : Declarations → Place → Reading → Result Run Refu
 finished d end r = finished_at d end r.heading r
 
 -- nothing is read
-abbrev pub nothing_stated : {A : Type 0} → List A → List (Option Value)
-nothing_stated items = replicate (length items) None
-
 abbrev pub begin : Declarations → Reading
 begin d = record { heading = None; place = start; first = []; stated = nothing_stated d.items; states = []; labels = [] }

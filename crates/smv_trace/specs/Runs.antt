@@ -9,24 +9,16 @@ use Rattle.smv_meaning.specs.declared.value.Value.TheVariants.{Truth, Integer, S
 use Rattle.smv_meaning.specs.declared.value.Given.{Given}
 use Rattle.smv_meaning.specs.declared.value.Run.{Run}
 use Rattle.smv_meaning.specs.Types.{ExprType, truth_type, integer_type, symbol_type, word_type}
-use Rattle.smv_items.specs.declared.items.ItemKind.{ItemKind}
-use Rattle.smv_items.specs.declared.items.ItemKind.TheVariants as kind
 use Rattle.smv_items.specs.FlatItems.{PlainFlatItem}
 use Rattle.name_maps.specs.Names.{place_of}
-use Rattle.smv_trace.specs.declared.heading.Heading.{Heading}
-use Rattle.smv_trace.specs.declared.heading.Heading.TheVariants.{State, Input}
+use Rattle.smv_numbered.specs.declared.heading.Heading.{Heading}
+use Rattle.smv_numbered.specs.declared.heading.Heading.TheVariants.{State, Input}
+use Rattle.smv_numbered.specs.Values.{picks}
 
 -- what a trace is read against: the items and the symbols of a model
 pub record Declarations : Type 0 where
   pub items : List PlainFlatItem
   pub symbols : List (List ℕ)
-
--- the variables that a heading states: a state gives a value to each state and frozen variable, a label to each input
-abbrev pub picks : Heading → ItemKind → Bool
-picks State kind.State = true
-picks State kind.Frozen = true
-picks Input kind.Input = true
-picks heading k = false
 
 -- a word of this width: its bits are below two to the width
 abbrev pub is_word_of : ℕ → BitVector → Bool

@@ -2,7 +2,6 @@
 #![tactic(auto)]
 
 mod fault;
-mod heading;
 mod laws;
 mod print;
 mod read;
@@ -12,5 +11,5 @@ mod values;
 
 pub use laws::{not_both, one_of_both, one_refusal, one_trace, printed_reads_back, small_traces};
 pub use print::print_trace;
-pub use read::{TraceEnd, read_trace};
+pub use read::{TraceEnd, read_numbered, read_trace};
 pub use reader::{MOST_BYTES, MOST_STATES, MOST_VALUES};

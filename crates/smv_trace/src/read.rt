@@ -1,16 +1,19 @@
 // The reader of a whole trace text.
 ghost use Rattle.std.specs.Prelude.{◌≡◌, ◌≤◌, ◌<◌, ◌+◌, ◌^◌, length, true, IfOk};
 ghost use Rattle.text_core.specs.Places.{start, after};
+ghost use Rattle.smv_numbered.specs.Runs.{IsNumbered, run_in};
 ghost use Rattle.smv_trace_text.specs.Lines.{lines_of, behind_line};
 ghost use Rattle.smv_trace.specs.Runs.{IsStatedRun};
-ghost use Rattle.smv_trace.specs.Reading.{begin, is_within};
+ghost use Rattle.smv_trace.specs.Reading.{is_within};
+ghost use Rattle.smv_trace.specs.Numbering.{reading_of};
 ghost use Rattle.smv_trace.specs.Texts.{lines_read, trace_of};
-ghost use Rattle.smv_trace.specs.Answer.{Answers, Finishes, declarations_of};
+ghost use Rattle.smv_trace.specs.Answer.{Answers, Finishes, StatesRun, declarations_of};
 
 use crate::reader::{MOST_BYTES, Reader, refused};
 use crate::table::Table;
 use smv_flatten::Flat;
 use smv_meaning::Run;
+use smv_numbered::{NumberedRun, run_of};
 use smv_trace_text::{line_length, trim};
 use std::alloc::Global;
 use text_core::kinds::trace;
@@ -33,21 +36,21 @@ fn behind_line(at: Place, line: &[u8]) -> Place
 }
 
 // Reads the lines of a text.
-fn read_lines(alloc: Global, table: &Table, text: &[u8], reader: &mut Reader) -> Result<(), End>
+fn read_lines<'a>(alloc: Global, text: &[u8], reader: &mut Reader<'a>) -> Result<(), End>
     requires few { length text.now ≤ MOST_BYTES }
-    requires begin { reader.old ≡ begin table.now }
-    ensures { Finishes (lines_read table.now (after start text.now) start (lines_of text.now) reader.old) reader.new result }
+    ensures table { reader.new.table ≡ reader.old.table }
+    ensures step { Finishes (lines_read reader.old.table (after start text.now) start (lines_of text.now) (reading_of reader.old)) (reading_of reader.new) result }
 {
     let mut rest = text;
     let mut at = FIRST_PLACE;
     'lines: loop {
         let (line, marked) = rest.split_at(line_length(rest));
-        match reader.take_line(alloc, table, at, trim(line)) {
+        match reader.take_line(alloc, at, trim(line)) {
             Ok(()) => {}
             Err(end) => return Err(end),
         }
         let Some((_, more)) = marked.split_first() else {
-            return reader.finish(alloc, table, text)
+            return reader.finish(text)
         };
         at = behind_line(at, line);
         rest = more;
@@ -55,22 +58,47 @@ fn read_lines(alloc: Global, table: &Table, text: &[u8], reader: &mut Reader) ->
 }
 
 // The run of a text within the byte limit, against the declarations of a model.
-fn read_against(alloc: Global, table: &Table, text: &[u8]) -> Result<Run, TraceEnd>
+fn read_against<'a>(
+    alloc: Global,
+    table: &'a Table<'a>,
+    text: &[u8],
+) -> Result<NumberedRun, TraceEnd>
     requires { length text.now ≤ MOST_BYTES }
-    ensures { Answers (trace_of table.now text.now) result }
+    ensures exact { StatesRun table.now.items (trace_of table.now text.now) result }
+    ensures numbered { IfOk result IsNumbered }
 {
     let mut reader = Reader::new(alloc, table)?;
-    read_lines(alloc, table, text, &mut reader)?;
+    read_lines(alloc, text, &mut reader)?;
     Ok(reader.run())
 }
 
 // The run of a text within the byte limit.
-fn read_text(alloc: Global, flat: &Flat, text: &[u8]) -> Result<Run, TraceEnd>
+fn read_text(alloc: Global, flat: &Flat, text: &[u8]) -> Result<NumberedRun, TraceEnd>
     requires { length text.now ≤ MOST_BYTES }
-    ensures { Answers (trace_of (declarations_of flat.now) text.now) result }
+    ensures exact { StatesRun (declarations_of flat.now).items (trace_of (declarations_of flat.now) text.now) result }
+    ensures numbered { IfOk result IsNumbered }
 {
     let table = Table::of(alloc, flat)?;
     read_against(alloc, &table, text)
+}
+
+/// Returns the run that a text states for a model, by the numbers of the model's items.
+///
+/// It is the run that `read_trace` returns, or its refusal. Its memory is that of the values that the text states.
+pub fn read_numbered(alloc: Global, flat: &Flat, text: &[u8]) -> Result<NumberedRun, TraceEnd>
+    // The result is the run that the text states, or its first refusal.
+    ensures exact { StatesRun (declarations_of flat.now).items (trace_of (declarations_of flat.now) text.now) result }
+    // The run names each variable, with values that a trace can state.
+    ensures stated { IfOk result (λ run. IsStatedRun (declarations_of flat.now) (run_in (declarations_of flat.now).items run)) }
+    // The run is within the limits.
+    ensures within { IfOk result (λ run. is_within (declarations_of flat.now) (length run.ends) ≡ true) }
+    // No state ends before the one that it follows.
+    ensures numbered { IfOk result IsNumbered }
+{
+    if text.len() > MOST_BYTES {
+        return Err(refused(trace::TOO_LONG, FIRST_PLACE));
+    }
+    read_text(alloc, flat, text)
 }
 
 /// Returns the run that a text states for a model.
@@ -93,8 +121,6 @@ pub fn read_trace(alloc: Global, flat: &Flat, text: &[u8]) -> Result<Run, TraceE
     // The run is within the limits.
     ensures within { IfOk result (λ run. is_within (declarations_of flat.now) (length run.states) ≡ true) }
 {
-    if text.len() > MOST_BYTES {
-        return Err(refused(trace::TOO_LONG, FIRST_PLACE));
-    }
-    read_text(alloc, flat, text)
+    let run = read_numbered(alloc, flat, text)?;
+    Ok(run_of(alloc, flat.items().as_slice(), &run)?)
 }

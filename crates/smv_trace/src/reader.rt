@@ -1,28 +1,29 @@
 // The reader of a trace, line by line.
-ghost use Rattle.std.specs.Prelude.{◌≡◌, ◌<◌, ◌≤◌, ◌+◌, ◌^◌, ◌&&◌, ◌++◌, codes, length, decimal, ℕ, List, None, Some, is_none, is_some, IfOk, OnOk};
+ghost use Rattle.std.specs.Prelude.{◌≡◌, ◌<◌, ◌≤◌, ◌+◌, ◌^◌, ◌&&◌, not, codes, length, replicate, false, decimal, ℕ, List, None, Some, is_some, IfOk, OnOk};
 ghost use Rattle.std.specs.Str.{bytes_eq};
 ghost use Rattle.text_core.specs.declared.end.End.TheVariants as end;
 ghost use Rattle.text_core.specs.Places.{start, after};
-ghost use Rattle.smv_items.specs.FlatItemView.{item_plain};
-ghost use Rattle.smv_trace.specs.declared.heading.Heading.TheVariants as heading;
-ghost use Rattle.smv_trace.specs.Runs.{picks};
+ghost use Rattle.smv_numbered.specs.declared.heading.Heading.TheVariants as heading;
+ghost use Rattle.smv_numbered.specs.Values.{picks};
+ghost use Rattle.smv_numbered.specs.Runs.{IsNumbered};
 ghost use Rattle.smv_trace_text.specs.Lines.{heading_numbers, value_parts};
-ghost use Rattle.smv_trace.specs.Reading.{lacks, given_if, values_of, lacks_state, labels_on, with_state, ended, is_within, is_numbered, is_allowed, begun, heading_line, is_define, with_value, item_line, placed_line, value_line, value_step, label_step, other_step, state_step, step, finished, begin, nothing_stated};
+ghost use Rattle.smv_trace.specs.Numbering.{begun_with, lacks_known, reading_of, stated_in};
+ghost use Rattle.smv_trace.specs.Reading.{lacks, lacks_state, with_state, ended, is_within, is_numbered, is_allowed, is_empty, begun, heading_line, is_define, with_value, placed_line, value_line, value_step, other_step, state_step, step, finished};
 ghost use Rattle.smv_trace.specs.Answer.{Leaves, Finishes, Takes};
 
 use crate::fault::ValueFault;
-use crate::heading::Heading;
 use crate::table::Table;
 use crate::values::value_of;
 use itoa::Buffer;
 use name_maps::Successors;
 use smv_flatten::{FlatItem, ItemKind};
-use smv_meaning::{Given, Run, State, States, Value};
+use smv_meaning::Value;
+use smv_numbered::{Change, Heading, NumberedRun};
 use smv_trace_text::{begins_with_dash, heading_numbers, is_passed, value_parts};
 use std::alloc::Global;
 use std::marker::Model;
 use text_core::kinds::trace;
-use text_core::{End, FIRST_PLACE, Kind, Name, NoMemory, Place, Refusal};
+use text_core::{End, FIRST_PLACE, Kind, List, Name, NoMemory, Place, Refusal};
 
 /// The most bytes of a trace.
 pub const MOST_BYTES: usize = 67108864;
@@ -32,23 +33,28 @@ pub const MOST_STATES: u64 = 100000;
 pub const MOST_VALUES: u64 = 4000000;
 
 /// The state of the reader of a trace.
+///
+/// `known` says for each item whether it has a value yet.
 #[derive(Drop)]
-pub struct Reader {
+pub struct Reader<'a> {
+    table: &'a Table<'a>,
     heading: Option<Heading>,
     place: Place,
     first: Name,
-    stated: Vec<Option<Value>>,
-    states: States,
-    labels: States,
+    known: Vec<bool>,
+    changes: List<Change>,
+    ends: List<usize>,
     successors: Successors,
 }
 
-impl Model for Reader {
-    ghost use Rattle.smv_trace.specs.Reading.{Reading};
+impl<'a> Model for Reader<'a> {
+    ghost use Rattle.smv_trace.specs.Numbering.{Numbering, IsKept};
 
-    ghost Value = { Reading };
+    ghost Value = { Numbering };
 
-    ghost view = { λ r. record { heading = r.heading; place = r.place; first = r.first; stated = r.stated.items; states = r.states; labels = r.labels } };
+    ghost view = { λ r. record { table = r.table.now; heading = r.heading; place = r.place; first = r.first; changes = r.changes; ends = r.ends } };
+
+    ghost invariant = { λ r. IsKept r.table.now.items r.known.items r.changes r.ends };
 }
 
 // The refusal at this place.
@@ -58,103 +64,36 @@ pub(crate) fn refused(kind: Kind, place: Place) -> End
     End::Bad(Refusal { kind, place })
 }
 
-fn duplicate(alloc: Global, value: &Value) -> Result<Value, NoMemory>
-    ensures { IfOk result (λ v. v ≡ value.now) }
-{
-    match value {
-        Value::Truth(truth) => Ok(Value::Truth(*truth)),
-        Value::Integer(number) => Ok(Value::Integer(*number)),
-        Value::Symbol(name) => Ok(Value::Symbol(name.duplicate(alloc)?)),
-        Value::Bits(word) => Ok(Value::Bits(*word)),
-    }
-}
-
-fn given(alloc: Global, name: &Name, value: &Value) -> Result<Given, NoMemory>
-    ensures { IfOk result (λ g. g ≡ record { name = name.now; value = value.now }) }
-{
-    let value = duplicate(alloc, value)?;
-    let name = name.duplicate(alloc)?;
-    Ok(Given { name, value })
-}
-
-fn add_given(
-    alloc: Global,
-    state: &mut State,
-    heading: Heading,
-    item: &FlatItem,
-    stated: &Option<Value>,
-) -> Result<(), NoMemory>
-    ensures { OnOk result (state.new ≡ state.old ++ given_if (picks heading item.now.kind) item.now.name stated.now) }
-{
-    if !heading.picks(item.kind) {
-        return Ok(());
-    }
-    match stated {
-        Some(value) => {
-            let given = given(alloc, &item.name, value)?;
-            state.push(given)
-        }
-        None => Ok(()),
-    }
-}
-
-// The values of the heading's variables, in order. There is room for so many from the start.
-#[tactic(auto, using(crate::proofs::Lists::values_end))]
-fn values_of(
-    alloc: Global,
-    table: &Table,
-    heading: Heading,
-    stated: &[Option<Value>],
-    room: usize,
-) -> Result<State, NoMemory>
-    requires { length stated.now ≡ length table.now.items }
-    ensures { IfOk result (λ state. state ≡ values_of heading table.now.items stated.now) }
-{
-    let mut state = State::with_capacity(alloc, room)?;
-    for k in 0..table.len() {
-        add_given(alloc, &mut state, heading, table.item(k), &stated[k])?;
-    }
-    Ok(state)
-}
-
-// The room for the values of one more heading: those of the last one of its kind, or those of all variables.
-fn room_behind(before: &States, table: &Table) -> usize {
-    match before.as_slice().last() {
-        Some(state) => state.len(),
-        None => table.variables(),
-    }
-}
-
 // Whether an item is a variable of the heading without a value.
-fn is_missing(heading: Heading, item: &FlatItem, stated: &Option<Value>) -> bool
-    ensures { result ≡ (picks heading item.now.kind && is_none stated.now) }
+fn is_missing(heading: Heading, item: &FlatItem, known: bool) -> bool
+    ensures { result ≡ (picks heading item.now.kind && not known) }
 {
-    heading.picks(item.kind) && stated.is_none()
+    heading.picks(item.kind) && !known
 }
 
-// Whether a variable of the heading has no value yet.
+// Whether a variable of the heading has no value yet, by the items that have one.
 #[tactic(auto, using(crate::proofs::Lists::lacks_end))]
-fn lacks(table: &Table, heading: Heading, stated: &[Option<Value>]) -> bool
-    requires { length stated.now ≡ length table.now.items }
-    ensures { result ≡ lacks heading table.now.items stated.now }
+fn lacks_known(table: &Table, heading: Heading, known: &[bool]) -> bool
+    requires { length known.now ≡ length table.now.items }
+    ensures { result ≡ lacks_known heading table.now.items known.now }
 {
     for k in 0..table.len() {
-        if is_missing(heading, table.item(k), &stated[k]) {
+        if is_missing(heading, table.item(k), known[k]) {
             return true;
         }
     }
     false
 }
 
-// A list without a value for any item.
-fn nothing_stated(alloc: Global, table: &Table) -> Result<Vec<Option<Value>>, NoMemory>
-    ensures { IfOk result (λ stated. stated.items ≡ nothing_stated table.now.items) }
+// For each item, that it has no value.
+fn none_known(alloc: Global, table: &Table) -> Result<Vec<bool>, NoMemory>
+    ensures { IfOk result (λ known. known.items ≡ replicate (length table.now.items) false) }
 {
-    let mut stated = Vec::new(alloc);
+    let mut known = Vec::new(alloc);
     for _k in 0..table.len() {
-        stated.push(None)?;
+        known.push(false)?;
     }
-    Ok(stated)
+    Ok(known)
 }
 
 // Whether the digits are those of the number.
@@ -180,34 +119,43 @@ fn is_define(kind: ItemKind) -> bool
     matches!(kind, ItemKind::Define)
 }
 
-impl Reader {
+impl<'a> Reader<'a> {
     /// Creates a reader that has read nothing.
-    pub fn new(alloc: Global, table: &Table) -> Result<Reader, NoMemory>
-        ensures { IfOk result (λ r. r ≡ begin table.now) }
+    pub fn new(alloc: Global, table: &'a Table<'a>) -> Result<Reader<'a>, NoMemory>
+        ensures { IfOk result (λ r. r ≡ begun_with table.now) }
     {
-        let stated = nothing_stated(alloc, table)?;
+        let known = none_known(alloc, table)?;
         let first = Name::of(alloc, b"")?;
         let mut successors = Successors::new(alloc);
         successors.cover(table.names())?;
         Ok(Reader {
+            table,
             heading: None,
             place: FIRST_PLACE,
             first,
-            stated,
-            states: States::new(alloc),
-            labels: States::new(alloc),
+            known,
+            changes: List::new(alloc),
+            ends: List::new(alloc),
             successors,
         })
     }
 
     /// Returns the run that was read.
-    pub fn run(self) -> Run
-        ensures { result ≡ record { states = self.states; labels = self.labels } }
+    pub fn run(self) -> NumberedRun
+        ensures run { result ≡ record { changes = self.entry.changes; ends = self.entry.ends } }
+        ensures numbered { IsNumbered result }
     {
-        Run {
-            states: self.states,
-            labels: self.labels,
+        NumberedRun {
+            changes: self.changes,
+            ends: self.ends,
         }
+    }
+
+    // What the text is read against.
+    fn table(&self) -> &'a Table<'a>
+        ensures { result.now ≡ self.now.table }
+    {
+        self.table
     }
 
     // Whether a heading has been read.
@@ -219,72 +167,67 @@ impl Reader {
 
     // The number of the next state, counted from 1.
     fn number(&self) -> u128
-        ensures value { result ≡ length self.now.states + 1 }
+        ensures value { result ≡ length (reading_of self.now).states + 1 }
         ensures small { result < 2 ^ 64 + 1 }
     {
-        self.states.len() as u128 + 1
+        self.ends.len() as u128 + 1
     }
 
-    fn lacks_state(&self, table: &Table) -> bool
-        requires { length self.now.stated ≡ length table.now.items }
-        ensures { result ≡ lacks_state table.now self.now }
+    // Whether a variable of the heading has no value yet.
+    fn lacks(&self, heading: Heading) -> bool
+        ensures { result ≡ lacks heading self.now.table.items (stated_in self.now) }
     {
-        lacks(table, Heading::State, &self.stated)
-            || (self.states.len() != 0 && lacks(table, Heading::Input, &self.stated))
+        lacks_known(self.table, heading, self.known.as_slice())
     }
 
-    // Adds the label that leads to the state, unless the state is the first.
-    fn add_label(&mut self, alloc: Global, table: &Table) -> Result<(), NoMemory>
-        requires { length self.old.stated ≡ length table.now.items }
-        ensures sized { length self.new.stated ≡ length self.old.stated }
-        ensures step { OnOk result (self.new ≡ record { heading = self.old.heading; place = self.old.place; first = self.old.first; stated = self.old.stated; states = self.old.states; labels = labels_on table.now self.old }) }
+    // Whether there is no state yet.
+    fn is_first(&self) -> bool
+        ensures { result ≡ is_empty (reading_of self.now).states }
     {
-        if self.states.len() == 0 {
-            return Ok(());
-        }
-        let room = room_behind(&self.labels, table);
-        let label = values_of(alloc, table, Heading::Input, &self.stated, room)?;
-        self.labels.push(label)
+        self.ends.len() == 0
     }
 
-    fn add_state(&mut self, alloc: Global, table: &Table) -> Result<(), NoMemory>
-        requires { length self.old.stated ≡ length table.now.items }
-        ensures sized { length self.new.stated ≡ length self.old.stated }
-        ensures step { OnOk result (self.new ≡ with_state table.now self.old) }
+    fn lacks_state(&self) -> bool
+        ensures { result ≡ lacks_state self.now.table (reading_of self.now) }
     {
-        self.add_label(alloc, table)?;
-        let room = room_behind(&self.states, table);
-        let state = values_of(alloc, table, Heading::State, &self.stated, room)?;
-        self.states.push(state)
+        self.lacks(Heading::State) || (!self.is_first() && self.lacks(Heading::Input))
+    }
+
+    // Adds the state, with the label that leads to it unless it is the first one.
+    fn add_state(&mut self) -> Result<(), NoMemory>
+        ensures table { self.new.table ≡ self.old.table }
+        ensures step { OnOk result (reading_of self.new ≡ with_state self.old.table (reading_of self.old)) }
+    {
+        let end = self.changes.len();
+        self.ends.push(end)?;
+        Ok(())
     }
 
     // Ends the lines of the last heading, before the end of the text or a heading of kind `next`.
-    fn end(&mut self, alloc: Global, table: &Table, next: Heading) -> Result<(), End>
-        requires { length self.old.stated ≡ length table.now.items }
-        ensures sized { length self.new.stated ≡ length self.old.stated }
-        ensures step { Leaves (ended table.now next self.old.heading self.old) self.new result }
+    fn end(&mut self, next: Heading) -> Result<(), End>
+        ensures table { self.new.table ≡ self.old.table }
+        ensures step { Leaves (ended self.old.table next self.old.heading (reading_of self.old)) (reading_of self.new) result }
     {
         match self.heading {
             None => Ok(()),
             Some(Heading::State) => {
-                if self.lacks_state(table) {
+                if self.lacks_state() {
                     return Err(refused(trace::MISSING, self.place));
                 }
-                self.add_state(alloc, table)?;
+                self.add_state()?;
                 Ok(())
             }
-            Some(Heading::Input) => self.end_label(table, next),
+            Some(Heading::Input) => self.end_label(next),
         }
     }
 
-    fn end_label(&self, table: &Table, next: Heading) -> Result<(), End>
-        requires { length self.now.stated ≡ length table.now.items }
-        ensures { Leaves (ended table.now next (Some heading.Input) self.now) self.now result }
+    fn end_label(&self, next: Heading) -> Result<(), End>
+        ensures { Leaves (ended self.now.table next (Some heading.Input) (reading_of self.now)) (reading_of self.now) result }
     {
         match next {
             Heading::Input => Ok(()),
             Heading::State => {
-                if lacks(table, Heading::Input, &self.stated) {
+                if self.lacks(Heading::Input) {
                     return Err(refused(trace::MISSING, self.place));
                 }
                 Ok(())
@@ -293,16 +236,16 @@ impl Reader {
     }
 
     fn is_numbered(&self, first: &[u8], second: &[u8]) -> bool
-        ensures { result ≡ is_numbered self.now (first.now, second.now) }
+        ensures { result ≡ is_numbered (reading_of self.now) (first.now, second.now) }
     {
         (self.heading.is_none() || first == self.first.bytes()) && is_decimal(second, self.number())
     }
 
-    fn is_allowed(&self, table: &Table, next: Heading) -> bool
-        ensures { result ≡ is_allowed table.now next self.now }
+    fn is_allowed(&self, next: Heading) -> bool
+        ensures { result ≡ is_allowed self.now.table next (reading_of self.now) }
     {
         match next {
-            Heading::State => is_within(table, self.number()),
+            Heading::State => is_within(self.table(), self.number()),
             Heading::Input => true,
         }
     }
@@ -310,19 +253,18 @@ impl Reader {
     fn begin(
         &mut self,
         alloc: Global,
-        table: &Table,
         next: Heading,
         at: Place,
         first: &[u8],
         second: &[u8],
     ) -> Result<(), End>
-        ensures sized { length self.new.stated ≡ length self.old.stated }
-        ensures step { Leaves (begun table.now next at (first.now, second.now) self.old) self.new result }
+        ensures table { self.new.table ≡ self.old.table }
+        ensures step { Leaves (begun self.old.table next at (first.now, second.now) (reading_of self.old)) (reading_of self.new) result }
     {
         if !self.is_numbered(first, second) {
             return Err(refused(trace::LINE, at));
         }
-        if !self.is_allowed(table, next) {
+        if !self.is_allowed(next) {
             return Err(refused(trace::TOO_LONG, at));
         }
         self.first = Name::of(alloc, first)?;
@@ -334,32 +276,34 @@ impl Reader {
     fn heading_line(
         &mut self,
         alloc: Global,
-        table: &Table,
         next: Heading,
         at: Place,
         first: &[u8],
         second: &[u8],
     ) -> Result<(), End>
-        requires { length self.old.stated ≡ length table.now.items }
-        ensures sized { length self.new.stated ≡ length self.old.stated }
-        ensures step { Leaves (heading_line table.now next at (first.now, second.now) self.old) self.new result }
+        ensures table { self.new.table ≡ self.old.table }
+        ensures step { Leaves (heading_line self.old.table next at (first.now, second.now) (reading_of self.old)) (reading_of self.new) result }
     {
-        match self.end(alloc, table, next) {
-            Ok(()) => self.begin(alloc, table, next, at, first, second),
+        match self.end(next) {
+            Ok(()) => self.begin(alloc, next, at, first, second),
             Err(end) => Err(end),
         }
     }
 
+    // Notes that the item with this number has a value.
     fn state_value(&mut self, k: usize, value: Option<Value>) -> Result<(), ValueFault>
-        requires { k < length self.old.stated }
-        ensures sized { length self.new.stated ≡ length self.old.stated }
-        ensures step { (at : Place) → Takes at (with_value at k self.old value) self.new result }
+        requires { k < length self.old.table.items }
+        ensures table { self.new.table ≡ self.old.table }
+        ensures step { (at : Place) → Takes at (with_value at k (reading_of self.old) value) (reading_of self.new) result }
     {
         match value {
-            Some(value) => {
-                self.stated[k] = Some(value);
-                Ok(())
-            }
+            Some(value) => match self.changes.push(Change { item: k, value }) {
+                Ok(()) => {
+                    self.known[k] = true;
+                    Ok(())
+                }
+                Err(_) => Err(ValueFault::NoMemory),
+            },
             None => Err(ValueFault::Value),
         }
     }
@@ -367,16 +311,15 @@ impl Reader {
     fn item_line(
         &mut self,
         alloc: Global,
-        table: &Table,
         heading: Heading,
         text: &[u8],
         k: usize,
     ) -> Result<(), ValueFault>
-        requires sized { length self.old.stated ≡ length table.now.items }
-        requires within { k < length table.now.items }
-        ensures sized { length self.new.stated ≡ length self.old.stated }
-        ensures step { (at : Place) → Takes at (placed_line table.now heading at text.now self.old (Some k)) self.new result }
+        requires { k < length self.old.table.items }
+        ensures table { self.new.table ≡ self.old.table }
+        ensures step { (at : Place) → Takes at (placed_line self.old.table heading at text.now (reading_of self.old) (Some k)) (reading_of self.new) result }
     {
+        let table = self.table();
         let item = table.item(k);
         if is_define(item.kind) {
             return Ok(());
@@ -393,80 +336,55 @@ impl Reader {
     fn value_line(
         &mut self,
         alloc: Global,
-        table: &Table,
         heading: Heading,
         name: &[u8],
         text: &[u8],
     ) -> Result<(), ValueFault>
-        requires { length self.old.stated ≡ length table.now.items }
-        ensures sized { length self.new.stated ≡ length self.old.stated }
-        ensures step { (at : Place) → Takes at (value_line table.now heading at (name.now, text.now) self.old) self.new result }
+        ensures table { self.new.table ≡ self.old.table }
+        ensures step { (at : Place) → Takes at (value_line self.old.table heading at (name.now, text.now) (reading_of self.old)) (reading_of self.new) result }
     {
-        match table.place(&mut self.successors, name) {
-            Some(k) => self.item_line(alloc, table, heading, text, k),
+        match self.table.place(&mut self.successors, name) {
+            Some(k) => self.item_line(alloc, heading, text, k),
             None => Err(ValueFault::Name),
         }
     }
 
-    fn value_step(
-        &mut self,
-        alloc: Global,
-        table: &Table,
-        heading: Heading,
-        line: &[u8],
-    ) -> Result<(), ValueFault>
-        requires { length self.old.stated ≡ length table.now.items }
-        ensures sized { length self.new.stated ≡ length self.old.stated }
-        ensures step { (at : Place) → Takes at (value_step table.now heading at self.old (value_parts line.now)) self.new result }
+    fn value_step(&mut self, alloc: Global, heading: Heading, line: &[u8]) -> Result<(), ValueFault>
+        ensures table { self.new.table ≡ self.old.table }
+        ensures step { (at : Place) → Takes at (value_step self.old.table heading at (reading_of self.old) (value_parts line.now)) (reading_of self.new) result }
     {
         match value_parts(line) {
-            Some((name, text)) => self.value_line(alloc, table, heading, name, text),
+            Some((name, text)) => self.value_line(alloc, heading, name, text),
             None => Err(ValueFault::Shape),
         }
     }
 
     // A line that does not begin like a heading.
-    fn plain_line(
-        &mut self,
-        alloc: Global,
-        table: &Table,
-        at: Place,
-        line: &[u8],
-    ) -> Result<(), End>
-        requires sized { length self.old.stated ≡ length table.now.items }
-        requires plain { (word : List ℕ) → heading_numbers word line.now ≡ None }
-        ensures sized { length self.new.stated ≡ length self.old.stated }
-        ensures step { Leaves (other_step table.now at line.now self.old self.old.heading) self.new result }
+    fn plain_line(&mut self, alloc: Global, at: Place, line: &[u8]) -> Result<(), End>
+        requires { (word : List ℕ) → heading_numbers word line.now ≡ None }
+        ensures table { self.new.table ≡ self.old.table }
+        ensures step { Leaves (other_step self.old.table at line.now (reading_of self.old) self.old.heading) (reading_of self.new) result }
     {
         let Some(heading) = self.heading else {
             return Ok(())
         };
-        match self.value_step(alloc, table, heading, line) {
+        match self.value_step(alloc, heading, line) {
             Ok(()) => Ok(()),
             Err(fault) => Err(fault.at(at)),
         }
     }
 
     // A line that is not the heading of a state.
-    fn other_line(
-        &mut self,
-        alloc: Global,
-        table: &Table,
-        at: Place,
-        line: &[u8],
-    ) -> Result<(), End>
-        requires { length self.old.stated ≡ length table.now.items }
-        ensures sized { length self.new.stated ≡ length self.old.stated }
-        ensures step { Leaves (other_step table.now at line.now self.old self.old.heading) self.new result }
+    fn other_line(&mut self, alloc: Global, at: Place, line: &[u8]) -> Result<(), End>
+        ensures table { self.new.table ≡ self.old.table }
+        ensures step { Leaves (other_step self.old.table at line.now (reading_of self.old) self.old.heading) (reading_of self.new) result }
     {
         let Some(heading) = self.heading else {
             return Ok(())
         };
         match heading_numbers(b"Input:", line) {
-            Some((first, second)) => {
-                self.heading_line(alloc, table, Heading::Input, at, first, second)
-            }
-            None => match self.value_step(alloc, table, heading, line) {
+            Some((first, second)) => self.heading_line(alloc, Heading::Input, at, first, second),
+            None => match self.value_step(alloc, heading, line) {
                 Ok(()) => Ok(()),
                 Err(fault) => Err(fault.at(at)),
             },
@@ -474,56 +392,40 @@ impl Reader {
     }
 
     // A line that begins like a heading.
-    fn marked_line(
-        &mut self,
-        alloc: Global,
-        table: &Table,
-        at: Place,
-        line: &[u8],
-    ) -> Result<(), End>
-        requires { length self.old.stated ≡ length table.now.items }
-        ensures sized { length self.new.stated ≡ length self.old.stated }
-        ensures step { Leaves (state_step table.now at line.now self.old (heading_numbers (codes "State:") line.now)) self.new result }
+    fn marked_line(&mut self, alloc: Global, at: Place, line: &[u8]) -> Result<(), End>
+        ensures table { self.new.table ≡ self.old.table }
+        ensures step { Leaves (state_step self.old.table at line.now (reading_of self.old) (heading_numbers (codes "State:") line.now)) (reading_of self.new) result }
     {
         match heading_numbers(b"State:", line) {
-            Some((first, second)) => {
-                self.heading_line(alloc, table, Heading::State, at, first, second)
-            }
-            None => self.other_line(alloc, table, at, line),
+            Some((first, second)) => self.heading_line(alloc, Heading::State, at, first, second),
+            None => self.other_line(alloc, at, line),
         }
     }
 
     /// Reads one line at this place, without blanks around it.
-    pub fn take_line(
-        &mut self,
-        alloc: Global,
-        table: &Table,
-        at: Place,
-        line: &[u8],
-    ) -> Result<(), End>
-        requires { length self.old.stated ≡ length table.now.items }
-        ensures sized { length self.new.stated ≡ length self.old.stated }
-        ensures step { Leaves (step table.now at line.now self.old) self.new result }
+    pub fn take_line(&mut self, alloc: Global, at: Place, line: &[u8]) -> Result<(), End>
+        ensures table { self.new.table ≡ self.old.table }
+        ensures step { Leaves (step self.old.table at line.now (reading_of self.old)) (reading_of self.new) result }
     {
         if is_passed(line) {
             return Ok(());
         }
         if begins_with_dash(line) {
-            self.marked_line(alloc, table, at, line)
+            self.marked_line(alloc, at, line)
         } else {
-            self.plain_line(alloc, table, at, line)
+            self.plain_line(alloc, at, line)
         }
     }
 
     /// Ends the text.
-    pub fn finish(&mut self, alloc: Global, table: &Table, text: &[u8]) -> Result<(), End>
-        requires few { length text.now ≤ MOST_BYTES }
-        requires sized { length self.old.stated ≡ length table.now.items }
-        ensures { Finishes (finished table.now (after start text.now) self.old) self.new result }
+    pub fn finish(&mut self, text: &[u8]) -> Result<(), End>
+        requires { length text.now ≤ MOST_BYTES }
+        ensures table { self.new.table ≡ self.old.table }
+        ensures step { Finishes (finished self.old.table (after start text.now) (reading_of self.old)) (reading_of self.new) result }
     {
         if !self.has_begun() {
             return Err(refused(trace::LINE, FIRST_PLACE.after(text)));
         }
-        self.end(alloc, table, Heading::Input)
+        self.end(Heading::Input)
     }
 }

@@ -5,9 +5,9 @@ ghost use Rattle.smv_items.specs.FlatItemView.{item_plain};
 ghost use Rattle.smv_trace.specs.Reading.{is_variable, variables_of};
 ghost use Rattle.smv_trace.specs.Answer.{declarations_of};
 
-use crate::heading::Heading;
 use name_maps::{NameSet, NameTable, Successors};
 use smv_flatten::{Flat, FlatItem, FlatItems};
+use smv_numbered::Heading;
 use std::alloc::Global;
 use std::marker::Model;
 use text_core::NoMemory;
@@ -17,7 +17,7 @@ use text_core::NoMemory;
 pub struct Table<'a> {
     items: &'a FlatItems,
     names: NameTable,
-    symbols: NameSet,
+    symbols: &'a NameSet,
     variables: usize,
 }
 
@@ -29,7 +29,7 @@ impl<'a> Model for Table<'a> {
 
     ghost Value = { Declarations };
 
-    ghost view = { λ t. record { items = map item_plain t.items.now; symbols = t.symbols } };
+    ghost view = { λ t. record { items = map item_plain t.items.now; symbols = t.symbols.now } };
 
     ghost invariant = { λ t. (t.names ≡ map (λ m. m.name) (map item_plain t.items.now)) × (t.variables ≡ length (variables_of (map item_plain t.items.now))) };
 }
@@ -69,19 +69,6 @@ fn variables_in(items: &FlatItems) -> usize
     count
 }
 
-// The symbols, which are distinct.
-fn symbols_of(alloc: Global, flat: &Flat) -> Result<NameSet, NoMemory>
-    requires { are_fresh [] flat.now.symbols ≡ true }
-    ensures { IfOk result (λ symbols. symbols ≡ flat.now.symbols) }
-{
-    let mut symbols = NameSet::new(alloc);
-    if symbols.declare_all(alloc, flat.symbols())? {
-        Ok(symbols)
-    } else {
-        unreachable!()
-    }
-}
-
 impl<'a> Table<'a> {
     /// Creates the table of a flat form's declarations.
     pub fn of(alloc: Global, flat: &'a Flat) -> Result<Table<'a>, NoMemory>
@@ -90,12 +77,11 @@ impl<'a> Table<'a> {
         flat.is_of_model();
         let items = flat.items();
         let names = names_of(alloc, items)?;
-        let symbols = symbols_of(alloc, flat)?;
         let variables = variables_in(items);
         Ok(Table {
             items,
             names,
-            symbols,
+            symbols: flat.symbols(),
             variables,
         })
     }

@@ -31,9 +31,10 @@ use Rattle.smv_flat_laws.proofs.FlatRows.{item_there}
 use Rattle.smv_width.specs.FlatWidth.{width_of}
 use Rattle.smv_width.proofs.SpelledWidths.{instances_operators}
 use Rattle.smv_flatten.specs.FlatModel.{IsRead}
-use Rattle.smv_trace.specs.Runs.{IsStatedRun, can_be_stated, names_each, picks}
-use Rattle.smv_trace.specs.declared.heading.Heading.{Heading}
-use Rattle.smv_trace.specs.declared.heading.Heading.TheVariants as heading
+use Rattle.smv_trace.specs.Runs.{IsStatedRun, can_be_stated, names_each}
+use Rattle.smv_numbered.specs.Values.{picks}
+use Rattle.smv_numbered.specs.declared.heading.Heading.{Heading}
+use Rattle.smv_numbered.specs.declared.heading.Heading.TheVariants as heading
 use Rattle.smv_script.specs.Codes.{datum_of, value_of}
 use Rattle.smv_script.specs.Terms.{Coding}
 use Rattle.smv_script.specs.Script.{check_of, coding_of, place_of_item}

@@ -15,8 +15,8 @@ pub judge_parts-requires-clause-label : goal.judge_parts-requires-clause-label
 judge_parts-requires-clause-label g c = λ source k.
     subst (λ (g : List Given). IsTrue (label_fits (instances_of source) (given g))) (sym c.in_ok-label.ensures) (own_label _ source k)
 
-pub judge_parts-requires-clause-listed : goal.judge_parts-requires-clause-listed
-judge_parts-requires-clause-listed g c = λ is.
+pub judge_parts-requires-clause-judgeable : goal.judge_parts-requires-clause-judgeable
+judge_parts-requires-clause-judgeable g c = λ order same is.
     let items = c.parts-parts.ensures.items in
     subst (λ (ms : List FlatItem). AllListed (map item_plain ms) c.args.run.now.states c.args.run.now.labels c.in_ok-label.label) (sym items)
-    (run_listed _ c.requires.model.0 c.requires.model.1 c.args.run.now c.in_ok-label.label (c.in_ok-label.ensures ∙ ap (λ (ms : List FlatItem). first_label (map item_plain ms)) items) (c.requires.listed is))
+    (run_listed _ c.requires.model.0 c.requires.model.1 c.args.run.now c.in_ok-label.label (c.in_ok-label.ensures ∙ ap (λ (ms : List FlatItem). first_label (map item_plain ms)) items) (c.requires.listed (sym same ∙ is)))

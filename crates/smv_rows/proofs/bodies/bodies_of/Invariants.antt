@@ -1,4 +1,4 @@
-use Rattle.std.proofs.Common.{◌≡◌, true, ℕ, List, Option, map, length}
+use Rattle.std.proofs.Common.{◌≡◌, true, List, Option, map, length}
 use Rattle.std.specs.Borrow.{Bor}
 use Rattle.std.specs.List.{AllByRecursion}
 use Rattle.digraph.specs.Graph.{are_distinct}

@@ -1,6 +1,5 @@
 use Rattle.std.proofs.Common.{sym, ap, ◌∙◌, Some, ◌≤◌, length, arith}
 use Rattle.std.proofs.lemmas.Option.{slice_get-get_or}
-use Rattle.smv_items.specs.declared.items.FlatItem.{FlatItem}
 use Rattle.smv_rows.proofs.Inputs.{inputs_on, inputs_end}
 use Rattle.smv_rows.proofs.listed.give_inputs.Goals as goal
 

@@ -1,4 +1,3 @@
-use Rattle.std.proofs.Common.{◌∙◌, sym, ap, subst}
 use Rattle.smv_rows.proofs.Relabelled.{row_kept, inputs_now}
 use Rattle.smv_rows.proofs.row.Row.give_label.Goals as goal
 

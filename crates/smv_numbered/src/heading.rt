@@ -1,12 +1,12 @@
-// The headings of a trace.
+// The headings under which values are stated.
 ghost use Rattle.std.specs.Prelude.{◌≡◌};
-ghost use Rattle.smv_trace.specs.Runs.{picks};
+ghost use Rattle.smv_numbered.specs.Values.{picks};
 
-use smv_flatten::ItemKind;
+use smv_items::ItemKind;
 
-/// A heading of a trace.
+/// A heading under which values are stated.
 ///
-/// After it come the values of a state, or of the label that leads to the next state.
+/// Under it are the values of a state, or of the label that leads to the next state.
 #[derive(Clone, Copy)]
 pub enum Heading {
     State,
