@@ -110,12 +110,10 @@ fn is_from_right(links: &[Link]) -> bool
 fn all_imply(links: &[Link]) -> bool
     ensures { result ≡ are_implies (links_of (map plain_link links.now)) }
 {
-    let mut rest = links;
-    while let Some((first, more)) = rest.split_first() {
-        if !is_implication(first.op) {
+    for link in links {
+        if !is_implication(link.op) {
             return false;
         }
-        rest = more;
     }
     true
 }
@@ -170,8 +168,7 @@ fn last_front<'a>(
     ensures { plain_or result (seen_value first.now) ≡ fronts_value (row_reads table.now i now.now label.now) (row_reads table.now i later.now label.now) (seen_value first.now) (links_of (map plain_link links.now)) }
 {
     let mut front = None;
-    let mut rest = links;
-    while let Some((link, more)) = rest.split_first() {
+    for link in links {
         let next = match front {
             None => next_front(table, i, link.op, first, &link.operand, now, label, later),
             Some(value) => next_front(
@@ -186,7 +183,6 @@ fn last_front<'a>(
             ),
         };
         front = Some(next);
-        rest = more;
     }
     front
 }
@@ -291,13 +287,11 @@ fn call_value<'a>(
 {
     if let Function::Count = f {
         let mut count = 0i64;
-        let mut rest = arguments;
-        while let Some((first, more)) = rest.split_first() {
-            let value = evaluate(table, i, first, now, label, later);
+        for argument in arguments {
+            let value = evaluate(table, i, argument, now, label, later);
             if truth_of(&value) {
                 count += 1;
             }
-            rest = more;
         }
         return Plain::Integer(count);
     }
@@ -398,12 +392,10 @@ fn one_has<'a>(
     requires safe { SafeTrees (IsCached table.now i now.now label.now) (IsCached table.now i later.now label.now) (row_reads table.now i now.now label.now) (row_reads table.now i later.now label.now) (trees_of (map plain elements.now)) }
     ensures { result ≡ one_permits (row_reads table.now i now.now label.now) (row_reads table.now i later.now label.now) (trees_of (map plain elements.now)) (seen_value value.now) }
 {
-    let mut rest = elements;
-    while let Some((first, more)) = rest.split_first() {
-        if permits(table, i, first, value, now, label, later) {
+    for element in elements {
+        if permits(table, i, element, value, now, label, later) {
             return true;
         }
-        rest = more;
     }
     false
 }
@@ -426,8 +418,7 @@ fn last_has<'a>(
 {
     let mut front = None;
     let mut has = first_has;
-    let mut rest = links;
-    while let Some((link, more)) = rest.split_first() {
+    for link in links {
         let next = match front {
             None => next_front(table, i, link.op, first, &link.operand, now, label, later),
             Some(before) => next_front(
@@ -448,7 +439,6 @@ fn last_has<'a>(
             has = are_same_plain(&next, value);
         }
         front = Some(next);
-        rest = more;
     }
     has
 }

@@ -75,8 +75,8 @@ fn keep_all<'a>(
     ensures kept { OnOk result (MarkedAreCached table.now reach.now.marks row.new label.now) }
 {
     let bodies = reach.bodies.as_slice();
-    for n in 0..reach.order.len() {
-        let k = *reach.order.at(n);
+    for number in reach.order.as_slice() {
+        let k = *number;
         keep_marked(table, &bodies[k], &reach.marks, label, row)?;
     }
     Ok(())

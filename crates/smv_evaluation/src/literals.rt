@@ -55,10 +55,8 @@ fn in_expression(e: &Expr)
 fn in_links(links: &[Link])
     ensures { IsTrue (link_words (links_of (map plain_link links.now))) }
 {
-    let mut rest = links;
-    while let Some((first, more)) = rest.split_first() {
-        in_expression(&first.operand);
-        rest = more;
+    for link in links {
+        in_expression(&link.operand);
     }
 }
 
@@ -67,11 +65,9 @@ fn in_links(links: &[Link])
 fn in_branches(branches: &[Branch])
     ensures { IsTrue (branch_words (branches_of (map plain_branch branches.now))) }
 {
-    let mut rest = branches;
-    while let Some((first, more)) = rest.split_first() {
-        in_expression(&first.when);
-        in_expression(&first.value);
-        rest = more;
+    for branch in branches {
+        in_expression(&branch.when);
+        in_expression(&branch.value);
     }
 }
 
@@ -80,10 +76,8 @@ fn in_branches(branches: &[Branch])
 fn in_expressions(expressions: &[Expr])
     ensures { IsTrue (tree_words (trees_of (map plain expressions.now))) }
 {
-    let mut rest = expressions;
-    while let Some((first, more)) = rest.split_first() {
-        in_expression(first);
-        rest = more;
+    for expression in expressions {
+        in_expression(expression);
     }
 }
 

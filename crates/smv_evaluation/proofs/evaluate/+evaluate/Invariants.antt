@@ -1,4 +1,4 @@
-use Rattle.std.proofs.Common.{length, ◌+◌, ◌*◌, ◌≡◌, ◌≤◌, max, map, ◌+ℤ◌, pos}
+use Rattle.std.proofs.Common.{drop, length, ◌+◌, ◌*◌, ◌≡◌, ◌≤◌, max, map, ◌+ℤ◌, pos}
 use Rattle.smv_text.specs.Tree.{links_of, branches_of, trees_of}
 use Rattle.smv_text.specs.View.{plain, plain_branch, plain_link}
 use Rattle.smv_meaning.specs.Expressions.{denote, chosen, values_of, one_permits}
@@ -40,23 +40,17 @@ decreases-one_has l = 8 * tree_depth (trees_of (map plain l.elements.now)) + 3
 
 abbrev pub invariant-last_front-loop-link : goal.invariant-last_front-loop-link
 invariant-last_front-loop-link l = record {
-  low : link_depth (links_of (map plain_link l.rest)) ≤ link_depth (links_of (map plain_link l.fn.links));
-  safe : SafeLinks (IsCached l.table l.i l.now l.label) (IsCached l.table l.i l.later l.label) (row_reads l.table l.i l.now l.label) (row_reads l.table l.i l.later l.label) (plain_or l.front (seen_value l.first)) (links_of (map plain_link l.rest));
-  same : fronts_value (row_reads l.table l.i l.now l.label) (row_reads l.table l.i l.later l.label) (plain_or l.front (seen_value l.first)) (links_of (map plain_link l.rest)) ≡ fronts_value (row_reads l.table l.i l.now l.label) (row_reads l.table l.i l.later l.label) (seen_value l.first) (links_of (map plain_link l.fn.links));
+  low : link_depth (links_of (map plain_link (drop l.link-index l.links))) ≤ link_depth (links_of (map plain_link l.links));
+  safe : SafeLinks (IsCached l.table l.i l.now l.label) (IsCached l.table l.i l.later l.label) (row_reads l.table l.i l.now l.label) (row_reads l.table l.i l.later l.label) (plain_or l.front (seen_value l.first)) (links_of (map plain_link (drop l.link-index l.links)));
+  same : fronts_value (row_reads l.table l.i l.now l.label) (row_reads l.table l.i l.later l.label) (plain_or l.front (seen_value l.first)) (links_of (map plain_link (drop l.link-index l.links))) ≡ fronts_value (row_reads l.table l.i l.now l.label) (row_reads l.table l.i l.later l.label) (seen_value l.first) (links_of (map plain_link l.links));
 }
-
-abbrev pub decreases-last_front-loop-link : goal.decreases-last_front-loop-link
-decreases-last_front-loop-link l = length l.rest
 
 abbrev pub invariant-last_has-loop-link : goal.invariant-last_has-loop-link
 invariant-last_has-loop-link l = record {
-  low : link_depth (links_of (map plain_link l.rest)) ≤ link_depth (links_of (map plain_link l.fn.links));
-  safe : SafeLinks (IsCached l.table l.i l.now l.label) (IsCached l.table l.i l.later l.label) (row_reads l.table l.i l.now l.label) (row_reads l.table l.i l.later l.label) (plain_or l.front (seen_value l.first)) (links_of (map plain_link l.rest));
-  same : fronts_permit (row_reads l.table l.i l.now l.label) (row_reads l.table l.i l.later l.label) (seen_value l.value) (plain_or l.front (seen_value l.first)) l.has (links_of (map plain_link l.rest)) ≡ fronts_permit (row_reads l.table l.i l.now l.label) (row_reads l.table l.i l.later l.label) (seen_value l.value) (seen_value l.first) l.fn.first_has (links_of (map plain_link l.fn.links));
+  low : link_depth (links_of (map plain_link (drop l.link-index l.links))) ≤ link_depth (links_of (map plain_link l.links));
+  safe : SafeLinks (IsCached l.table l.i l.now l.label) (IsCached l.table l.i l.later l.label) (row_reads l.table l.i l.now l.label) (row_reads l.table l.i l.later l.label) (plain_or l.front (seen_value l.first)) (links_of (map plain_link (drop l.link-index l.links)));
+  same : fronts_permit (row_reads l.table l.i l.now l.label) (row_reads l.table l.i l.later l.label) (seen_value l.value) (plain_or l.front (seen_value l.first)) l.has (links_of (map plain_link (drop l.link-index l.links))) ≡ fronts_permit (row_reads l.table l.i l.now l.label) (row_reads l.table l.i l.later l.label) (seen_value l.value) (seen_value l.first) l.fn.first_has (links_of (map plain_link l.links));
 }
-
-abbrev pub decreases-last_has-loop-link : goal.decreases-last_has-loop-link
-decreases-last_has-loop-link l = length l.rest
 
 abbrev pub invariant-chosen_branch-loop-branch : goal.invariant-chosen_branch-loop-branch
 invariant-chosen_branch-loop-branch l = record {
@@ -68,22 +62,16 @@ invariant-chosen_branch-loop-branch l = record {
 abbrev pub decreases-chosen_branch-loop-branch : goal.decreases-chosen_branch-loop-branch
 decreases-chosen_branch-loop-branch l = length l.rest
 
-abbrev pub invariant-call_value-loop-first : goal.invariant-call_value-loop-first
-invariant-call_value-loop-first l = record {
-  low : tree_depth (trees_of (map plain l.rest)) ≤ tree_depth (trees_of (map plain l.arguments));
-  safe : SafeTrees (IsCached l.table l.i l.now l.label) (IsCached l.table l.i l.later l.label) (row_reads l.table l.i l.now l.label) (row_reads l.table l.i l.later l.label) (trees_of (map plain l.rest));
-  same : l.count +ℤ pos (trues (values_of (row_reads l.table l.i l.now l.label) (row_reads l.table l.i l.later l.label) (trees_of (map plain l.rest)))) ≡ pos (trues (values_of (row_reads l.table l.i l.now l.label) (row_reads l.table l.i l.later l.label) (trees_of (map plain l.arguments))));
+abbrev pub invariant-call_value-loop-argument : goal.invariant-call_value-loop-argument
+invariant-call_value-loop-argument l = record {
+  low : tree_depth (trees_of (map plain (drop l.argument-index l.arguments))) ≤ tree_depth (trees_of (map plain l.arguments));
+  safe : SafeTrees (IsCached l.table l.i l.now l.label) (IsCached l.table l.i l.later l.label) (row_reads l.table l.i l.now l.label) (row_reads l.table l.i l.later l.label) (trees_of (map plain (drop l.argument-index l.arguments)));
+  same : l.count +ℤ pos (trues (values_of (row_reads l.table l.i l.now l.label) (row_reads l.table l.i l.later l.label) (trees_of (map plain (drop l.argument-index l.arguments))))) ≡ pos (trues (values_of (row_reads l.table l.i l.now l.label) (row_reads l.table l.i l.later l.label) (trees_of (map plain l.arguments))));
 }
 
-abbrev pub decreases-call_value-loop-first : goal.decreases-call_value-loop-first
-decreases-call_value-loop-first l = length l.rest
-
-abbrev pub invariant-one_has-loop-first : goal.invariant-one_has-loop-first
-invariant-one_has-loop-first l = record {
-  low : tree_depth (trees_of (map plain l.rest)) ≤ tree_depth (trees_of (map plain l.fn.elements));
-  safe : SafeTrees (IsCached l.table l.i l.now l.label) (IsCached l.table l.i l.later l.label) (row_reads l.table l.i l.now l.label) (row_reads l.table l.i l.later l.label) (trees_of (map plain l.rest));
-  same : one_permits (row_reads l.table l.i l.now l.label) (row_reads l.table l.i l.later l.label) (trees_of (map plain l.rest)) (seen_value l.value) ≡ one_permits (row_reads l.table l.i l.now l.label) (row_reads l.table l.i l.later l.label) (trees_of (map plain l.fn.elements)) (seen_value l.value);
+abbrev pub invariant-one_has-loop-element : goal.invariant-one_has-loop-element
+invariant-one_has-loop-element l = record {
+  low : tree_depth (trees_of (map plain (drop l.element-index l.elements))) ≤ tree_depth (trees_of (map plain l.elements));
+  safe : SafeTrees (IsCached l.table l.i l.now l.label) (IsCached l.table l.i l.later l.label) (row_reads l.table l.i l.now l.label) (row_reads l.table l.i l.later l.label) (trees_of (map plain (drop l.element-index l.elements)));
+  same : one_permits (row_reads l.table l.i l.now l.label) (row_reads l.table l.i l.later l.label) (trees_of (map plain (drop l.element-index l.elements))) (seen_value l.value) ≡ one_permits (row_reads l.table l.i l.now l.label) (row_reads l.table l.i l.later l.label) (trees_of (map plain l.elements)) (seen_value l.value);
 }
-
-abbrev pub decreases-one_has-loop-first : goal.decreases-one_has-loop-first
-decreases-one_has-loop-first l = length l.rest

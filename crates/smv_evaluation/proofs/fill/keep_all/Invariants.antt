@@ -7,9 +7,9 @@ use Rattle.smv_laws.proofs.Ranked.{key}
 use Rattle.smv_laws.proofs.Positions.{order_rank}
 use Rattle.smv_evaluation.proofs.fill.keep_all.Given as goal
 
-abbrev pub invariant-loop-n : goal.invariant-loop-n
-invariant-loop-n l = record {
+abbrev pub invariant-loop-number : goal.invariant-loop-number
+invariant-loop-number l = record {
   state : l.row.state ≡ l.fn.row.state;
-  kept : (k : ℕ) (x : List ℕ) (j : ℕ) (e : Tree) → order_rank (map instance_plain l.table) l.reach.order (key k x) ≤ l.n → is_marked l.reach.marks k x ≡ true
+  kept : (k : ℕ) (x : List ℕ) (j : ℕ) (e : Tree) → order_rank (map instance_plain l.table) l.reach.order (key k x) ≤ l.number-index → is_marked l.reach.marks k x ≡ true
       → local (map instance_plain l.table) k x ≡ body_of j e → FoundIsCached l.table l.row l.label (body_at k x j e);
 }

@@ -1,4 +1,4 @@
-use Rattle.std.proofs.Common.{◌≡◌, ◌≤◌, ◌+◌, ◌*◌, length, map}
+use Rattle.std.proofs.Common.{◌≡◌, ◌≤◌, ◌+◌, ◌*◌, drop, map}
 use Rattle.smv_text.specs.Tree.{links_of, branches_of, trees_of}
 use Rattle.smv_text.specs.View.{plain, plain_branch, plain_link}
 use Rattle.smv_meaning.specs.Safety.{depth, link_depth, branch_depth, tree_depth}
@@ -17,29 +17,20 @@ decreases-in_branches l = 2 * branch_depth (branches_of (map plain_branch l.bran
 abbrev pub decreases-in_expressions : goal.decreases-in_expressions
 decreases-in_expressions l = 2 * tree_depth (trees_of (map plain l.expressions.now)) + 1
 
-abbrev pub invariant-in_links-loop-first : goal.invariant-in_links-loop-first
-invariant-in_links-loop-first l = record {
-  low : link_depth (links_of (map plain_link l.rest)) ≤ link_depth (links_of (map plain_link l.fn.links));
-  same : link_words (links_of (map plain_link l.rest)) ≡ link_words (links_of (map plain_link l.fn.links));
+abbrev pub invariant-in_links-loop-link : goal.invariant-in_links-loop-link
+invariant-in_links-loop-link l = record {
+  low : link_depth (links_of (map plain_link (drop l.link-index l.links))) ≤ link_depth (links_of (map plain_link l.links));
+  same : link_words (links_of (map plain_link (drop l.link-index l.links))) ≡ link_words (links_of (map plain_link l.links));
 }
 
-abbrev pub decreases-in_links-loop-first : goal.decreases-in_links-loop-first
-decreases-in_links-loop-first l = length l.rest
-
-abbrev pub invariant-in_branches-loop-first : goal.invariant-in_branches-loop-first
-invariant-in_branches-loop-first l = record {
-  low : branch_depth (branches_of (map plain_branch l.rest)) ≤ branch_depth (branches_of (map plain_branch l.fn.branches));
-  same : branch_words (branches_of (map plain_branch l.rest)) ≡ branch_words (branches_of (map plain_branch l.fn.branches));
+abbrev pub invariant-in_branches-loop-branch : goal.invariant-in_branches-loop-branch
+invariant-in_branches-loop-branch l = record {
+  low : branch_depth (branches_of (map plain_branch (drop l.branch-index l.branches))) ≤ branch_depth (branches_of (map plain_branch l.branches));
+  same : branch_words (branches_of (map plain_branch (drop l.branch-index l.branches))) ≡ branch_words (branches_of (map plain_branch l.branches));
 }
 
-abbrev pub decreases-in_branches-loop-first : goal.decreases-in_branches-loop-first
-decreases-in_branches-loop-first l = length l.rest
-
-abbrev pub invariant-in_expressions-loop-first : goal.invariant-in_expressions-loop-first
-invariant-in_expressions-loop-first l = record {
-  low : tree_depth (trees_of (map plain l.rest)) ≤ tree_depth (trees_of (map plain l.fn.expressions));
-  same : tree_words (trees_of (map plain l.rest)) ≡ tree_words (trees_of (map plain l.fn.expressions));
+abbrev pub invariant-in_expressions-loop-expression : goal.invariant-in_expressions-loop-expression
+invariant-in_expressions-loop-expression l = record {
+  low : tree_depth (trees_of (map plain (drop l.expression-index l.expressions))) ≤ tree_depth (trees_of (map plain l.expressions));
+  same : tree_words (trees_of (map plain (drop l.expression-index l.expressions))) ≡ tree_words (trees_of (map plain l.expressions));
 }
-
-abbrev pub decreases-in_expressions-loop-first : goal.decreases-in_expressions-loop-first
-decreases-in_expressions-loop-first l = length l.rest
