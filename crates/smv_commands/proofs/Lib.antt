@@ -10,4 +10,3 @@ pub mod TraceAnswers
 pub mod Smv
 pub mod LiftedRuns
 pub mod LoweredRuns
-pub mod ListedRuns

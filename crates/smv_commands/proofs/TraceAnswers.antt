@@ -1,6 +1,7 @@
 -- What is answered to a trace is what is defined of it, and files define one such answer.
 use Rattle.std.proofs.Common.{◌≡◌, ◌-◌, inl, inr, ℕ, List, [], ◌∷◌, Option, Result, Ok, Err, refl, sym, ap, ◌∙◌, length, subst}
 use Rattle.std.specs.Prelude.{IfOk, IfErr, IfSome}
+use Rattle.std.proofs.lemmas.List.{length-map}
 use Rattle.text_core.specs.Outside.{Files}
 use Rattle.text_core.specs.declared.place.Refusal.{Refusal}
 use Rattle.text_core.specs.declared.verdict.Verdict.{Verdict}
@@ -11,6 +12,8 @@ use Rattle.smv_flat.specs.FlatForms.{PlainFlat}
 use Rattle.smv_flatten.specs.FlatModel.{FlatModel, flat_plain}
 use Rattle.smv_judge.specs.Models.{IsFlatOf}
 use Rattle.smv_meaning.specs.declared.value.Run.{Run}
+use Rattle.smv_numbered.specs.declared.run.NumberedRun.{NumberedRun}
+use Rattle.smv_numbered.specs.Runs.{run_in, state_at}
 use Rattle.smv_trace.specs.Answer.{declarations_of}
 use Rattle.smv_trace.specs.Texts.{trace_of}
 use Rattle.witness_lift.specs.Breaking.{IsFormOf}
@@ -119,6 +122,10 @@ IsSaid f j run v = (source : PlainSource) → IsFlatOf source (flat_plain f) →
 
 pub said_yes : (f : FlatModel) (j : ℕ) (run : Run) (n : ℕ) → IsSaid f j run Yes → n ≡ length run.states - 1 → IsRunAnswer verdict_answer f j run (answer.Done (Broken j n))
 said_yes f j run n said e = (tt, λ source form. ap (λ m. answer.Done (Broken j m)) e ∙ ap (verdict_answer source j run) (said source (flat_form source f form)))
+
+-- the same of a run by the numbers of the items
+pub numbered_yes : (f : FlatModel) (j : ℕ) (run : NumberedRun) (n : ℕ) → IsSaid f j (run_in (flat_plain f).items run) Yes → n ≡ length run.ends - 1 → IsRunAnswer verdict_answer f j (run_in (flat_plain f).items run) (answer.Done (Broken j n))
+numbered_yes f j run n said e = said_yes f j (run_in (flat_plain f).items run) n said (e ∙ ap (λ k. k - 1) (sym (length-map run.ends (state_at (flat_plain f).items run.changes))))
 
 pub said_no : (f : FlatModel) (j : ℕ) (run : Run) (step : ℕ) (clause : Clause) → IsSaid f j run (No step clause) → IsRunAnswer verdict_answer f j run (answer.No step clause)
 said_no f j run step clause said = (tt, λ source form. ap (verdict_answer source j run) (said source (flat_form source f form)))

@@ -5,8 +5,8 @@ ghost use Rattle.command_core.specs.Giving.{MayGive};
 ghost use Rattle.command_core.specs.Keeping.{KeepsShelf};
 ghost use Rattle.command_core.specs.Reading.{StopsUnread, StopsWith};
 ghost use Rattle.smv_text.specs.Tree.{PlainSource};
-ghost use Rattle.smv_trace.specs.Answer.{declarations_of};
-ghost use Rattle.smv_trace.specs.Runs.{IsStatedRun};
+ghost use Rattle.smv_flatten.specs.FlatModel.{flat_plain};
+ghost use Rattle.smv_numbered.specs.Runs.{IsNumbered, run_in};
 ghost use Rattle.witness_lift.specs.Breaking.{IsFormOf};
 ghost use Rattle.command_core.specs.declared.answer.Stop.TheVariants as Stop;
 ghost use Rattle.smv_commands.specs.SmvJudgement.{IsSmvJudgement, verdict_answer};
@@ -18,9 +18,9 @@ ghost use Rattle.smv_commands.specs.Models.{smv_too_long};
 use crate::models::{SMV_LIMIT, flat_in};
 use command_core::{Answer, FirstFile, LastFile, Output, Stop, answer_file, answer_files, refusal};
 use smv_flatten::Flat;
-use smv_judge::judge_listed;
-use smv_meaning::Run;
-use smv_trace::{MOST_BYTES, read_trace};
+use smv_judge::judge_numbered;
+use smv_numbered::NumberedRun;
+use smv_trace::{MOST_BYTES, read_numbered};
 use std::alloc::Global;
 use text_core::kinds::{smv, trace};
 use text_core::{End, Name, Shelf, Verdict};
@@ -55,7 +55,7 @@ impl<'a> LastFile for JudgeTrace<'a> {
 
     #[tactic(auto, using(crate::proofs::TraceAnswers::run_answered, crate::proofs::TraceAnswers::trace_refused))]
     fn answer(&self, alloc: Global, bytes: &[u8]) -> Result<Answer, Stop> {
-        match read_trace(alloc, self.flat, bytes) {
+        match read_numbered(alloc, self.flat, bytes) {
             Ok(run) => run_answer(alloc, self.flat, self.j, &run),
             Err(End::Bad(refusal)) => Ok(Answer::SecondRefused(refusal)),
             Err(End::NoMemory) => Err(Stop::NoMemory),
@@ -64,26 +64,26 @@ impl<'a> LastFile for JudgeTrace<'a> {
 }
 
 // The answer for the verdict on a run.
-#[tactic(auto, using(crate::proofs::TraceAnswers::has_flat, crate::proofs::TraceAnswers::said_yes, crate::proofs::TraceAnswers::said_no))]
-fn run_answer(alloc: Global, flat: &Flat, j: u32, run: &Run) -> Result<Answer, Stop>
+#[tactic(auto, using(crate::proofs::TraceAnswers::has_flat, crate::proofs::TraceAnswers::numbered_yes, crate::proofs::TraceAnswers::said_no))]
+fn run_answer(alloc: Global, flat: &Flat, j: u32, run: &NumberedRun) -> Result<Answer, Stop>
     requires model { (source : PlainSource) × IsFormOf source flat.now }
-    requires few { length run.now.states < 2 ^ 32 }
-    requires stated { IsStatedRun (declarations_of flat.now) run.now }
-    ensures answer { IfOk result (IsRunAnswer verdict_answer flat.now j run.now) }
+    requires few { length run.now.ends < 2 ^ 32 }
+    requires numbered { IsNumbered run.now }
+    ensures answer { IfOk result (IsRunAnswer verdict_answer flat.now j (run_in (flat_plain flat.now).items run.now)) }
     ensures stop { IfErr result (λ stop. stop ≡ Stop.NoMemory) }
 {
-    match judge_listed(alloc, flat, j, run)? {
+    match judge_numbered(alloc, flat, j, run)? {
         Verdict::Yes => Ok(Answer::Done(Output::Broken(j, last_step(run)))),
         Verdict::No(step, clause) => Ok(Answer::No(step, clause)),
     }
 }
 
 // The number of the last step of a run.
-fn last_step(run: &Run) -> u32
-    requires { length run.now.states < 2 ^ 32 }
-    ensures { result ≡ length run.now.states - 1 }
+fn last_step(run: &NumberedRun) -> u32
+    requires { length run.now.ends < 2 ^ 32 }
+    ensures { result ≡ length run.now.ends - 1 }
 {
-    run.states.len().saturating_sub(1) as u32
+    run.ends.len().saturating_sub(1) as u32
 }
 
 // Judges a trace of a model, given both files.

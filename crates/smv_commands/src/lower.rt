@@ -5,8 +5,8 @@ ghost use Rattle.command_core.specs.Giving.{MayGive};
 ghost use Rattle.command_core.specs.Keeping.{KeepsShelf};
 ghost use Rattle.command_core.specs.Reading.{StopsUnread, StopsWith};
 ghost use Rattle.smv_text.specs.Tree.{PlainSource};
-ghost use Rattle.smv_trace.specs.Answer.{declarations_of};
-ghost use Rattle.smv_trace.specs.Runs.{IsStatedRun};
+ghost use Rattle.smv_flatten.specs.FlatModel.{flat_plain};
+ghost use Rattle.smv_numbered.specs.Runs.{IsNumbered, run_in};
 ghost use Rattle.witness_lift.specs.Breaking.{IsFormOf};
 ghost use Rattle.command_core.specs.declared.answer.Stop.TheVariants as Stop;
 ghost use Rattle.smv_commands.specs.Lowering.{IsLowering, RunsAreLowered, lowered_answer};
@@ -17,12 +17,12 @@ ghost use Rattle.smv_commands.specs.Models.{smv_too_long};
 use crate::models::{SMV_LIMIT, chain_in};
 use btor_witness::{print_witness, printed_is_read};
 use command_core::{Answer, FirstFile, LastFile, Output, Stop, answer_file, answer_files, refusal};
-use smv_meaning::Run;
-use smv_trace::{MOST_BYTES, read_trace};
+use smv_numbered::NumberedRun;
+use smv_trace::{MOST_BYTES, read_numbered};
 use std::alloc::Global;
 use text_core::kinds::{smv, trace};
 use text_core::{End, Name, Shelf};
-use trace_lower::{LowerEnd, lower_flat, lowered_are_accepted, lowered_round_trip};
+use trace_lower::{LowerEnd, lower_numbered, lowered_are_accepted, lowered_round_trip};
 use witness_lift::{SmvChain, model_lines_are_laid_out, model_lines_are_spelled};
 
 // Lowers a trace to the witness that states its run, for the chain's model and invariant j.
@@ -55,7 +55,7 @@ impl<'a> LastFile for LowerTrace<'a> {
 
     #[tactic(auto, using(crate::proofs::TraceAnswers::run_answered, crate::proofs::TraceAnswers::trace_refused))]
     fn answer(&self, alloc: Global, bytes: &[u8]) -> Result<Answer, Stop> {
-        match read_trace(alloc, self.chain.flat(), bytes) {
+        match read_numbered(alloc, self.chain.flat(), bytes) {
             Ok(run) => run_answer(alloc, self.chain, self.j, &run),
             Err(End::Bad(refusal)) => Ok(Answer::SecondRefused(refusal)),
             Err(End::NoMemory) => Err(Stop::NoMemory),
@@ -64,16 +64,21 @@ impl<'a> LastFile for LowerTrace<'a> {
 }
 
 // The printed witness that states a run, or the judge's verdict No on the run.
-fn run_answer(alloc: Global, chain: &SmvChain, j: u32, run: &Run) -> Result<Answer, Stop>
+fn run_answer(
+    alloc: Global,
+    chain: &SmvChain,
+    j: u32,
+    run: &NumberedRun,
+) -> Result<Answer, Stop>
     requires model { (source : PlainSource) × IsFormOf source chain.now }
-    requires few { length run.now.states < 2 ^ 32 }
-    requires stated { IsStatedRun (declarations_of chain.now) run.now }
-    ensures answer { IfOk result (IsRunAnswer lowered_answer chain.now j run.now) }
+    requires few { length run.now.ends < 2 ^ 32 }
+    requires numbered { IsNumbered run.now }
+    ensures answer { IfOk result (IsRunAnswer lowered_answer chain.now j (run_in (flat_plain chain.now).items run.now)) }
     ensures stop { IfErr result (λ stop. stop ≡ Stop.NoMemory) }
 {
     lowered_are_accepted();
     model_lines_are_laid_out();
-    match lower_flat(alloc, chain.flat(), j, run, true) {
+    match lower_numbered(alloc, chain.flat(), j, run) {
         Ok(witness) => {
             let text = print_witness(alloc, chain.nodes(), &witness)?;
             Ok(Answer::Done(Output::Text(text)))

@@ -1,12 +1,10 @@
 -- Frames along the states of a run.
 use Rattle.std.proofs.Common.{◌≡◌, ◌+◌, ◌<◌, ◌≤◌, ◌^◌, List, [], ◌∷◌, ◌++◌, length, map, true, refl, sym, ap, ◌∙◌, subst, arith}
 use Rattle.std.proofs.lemmas.List.{length-append}
-use Rattle.name_maps.specs.Names.{are_fresh}
 use Rattle.btor_witness.specs.declared.witness.Frame.{Frame}
 use Rattle.smv_text.specs.Tree.{PlainSource}
 use Rattle.smv_meaning.specs.declared.value.Given.{Given}
 use Rattle.smv_meaning.specs.Instances.{instances_of, weight_of}
-use Rattle.smv_accepted.specs.NameLaws.{SymbolsDiffer}
 use Rattle.smv_items.specs.FlatItems.{PlainFlatItem}
 use Rattle.smv_flat.specs.FlatForms.{PlainFlat, flat_smv}
 use Rattle.smv_flat_laws.specs.FlatTruth.{Row}
@@ -61,9 +59,6 @@ form_is_flat source f m = record { needed = m.needed; read = m.read; accepted = 
 
 pub form_is_coded : (source : PlainSource) (f : FlatModel) (c : Codes) → IsFormOf source f → c.width ≡ f.width → c.symbols ≡ f.symbols → IsCodedOf source (flat_plain f) c
 form_is_coded source f c m width symbols = record { form = form_is_flat source f m; width = width ∙ m.width; symbols = symbols }
-
-pub symbols_fresh : (f : FlatModel) (source : PlainSource) → IsFormOf source f → SymbolsDiffer → are_fresh [] f.symbols ≡ true
-symbols_fresh f source m differ = ap (λ (x : PlainFlat). are_fresh [] x.symbols) m.form ∙ differ (instances_of source)
 
 -- the frames of the rows that were taken are those of the run
 pub taken_are : (source : PlainSource) (f : FlatModel) (c : Codes) (states labels : List (List Given)) (none frames : List Frame) → IsFormOf source f → c.width ≡ f.width → c.symbols ≡ f.symbols → (items : List PlainFlatItem) → items ≡ (flat_plain f).items

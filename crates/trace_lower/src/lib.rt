@@ -7,4 +7,4 @@ mod lower;
 mod words;
 
 pub use laws::{lowered_are_accepted, lowered_round_trip};
-pub use lower::{LowerEnd, lower_flat, lower_smv};
+pub use lower::{LowerEnd, lower_flat, lower_numbered, lower_smv};

@@ -1,12 +1,12 @@
 // The witness that states a run.
-ghost use Rattle.std.specs.Prelude.{◌≡◌, ◌<◌, ◌^◌, ◌++◌, true, map, length, IfOk, IfErr};
+ghost use Rattle.std.specs.Prelude.{◌≡◌, ◌<◌, ◌^◌, ◌++◌, map, length, IfOk, IfErr};
 ghost use Rattle.text_core.specs.declared.verdict.Verdict.TheVariants.{Yes};
 ghost use Rattle.smv_text.specs.Tree.{PlainSource};
 ghost use Rattle.smv_text.specs.View.{plain_source};
 ghost use Rattle.smv_meaning.specs.Phases.{IsAccepted};
 ghost use Rattle.smv_items.specs.FlatItemView.{item_plain};
 ghost use Rattle.smv_flatten.specs.FlatModel.{IsRead, flat_plain};
-ghost use Rattle.smv_judge.specs.Models.{IsListedRun};
+ghost use Rattle.smv_numbered.specs.Runs.{IsNumbered, run_in};
 ghost use Rattle.witness_lift.specs.Breaking.{IsFormOf};
 ghost use Rattle.trace_lower.specs.Ends.{HasForm, IsLowerEnd};
 ghost use Rattle.trace_lower.specs.Lowered.{lowered, verdict_on};
@@ -15,11 +15,11 @@ ghost use Rattle.trace_lower.specs.Stating.{frame_of as frame_in, variable_count
 use crate::frames::frame_of;
 use crate::words::Coder;
 use btor_witness::{FrameList, Witness};
-use smv_accepted::symbols_differ;
 use smv_flatten::{Flat, FlatEnd, flatten};
 use smv_items::FlatItem;
-use smv_judge::{TakesRows, judge_rows};
+use smv_judge::{TakesRows, judge_numbered_rows, judge_rows};
 use smv_meaning::Run;
+use smv_numbered::NumberedRun;
 use smv_operators::Seen;
 use smv_text::Source;
 use std::alloc::Global;
@@ -49,15 +49,15 @@ impl From<NoMemory> for LowerEnd {
 #[derive(Drop)]
 struct FrameRows<'a> {
     items: &'a [FlatItem],
-    coder: &'a Coder,
+    coder: Coder<'a>,
     frames: FrameList,
 }
 
 impl<'a> TakesRows for FrameRows<'a> {
-    ghost took = { λ start rows now. (variable_count (map item_plain start.items.now) < 2 ^ 32) × (now.items.now ≡ start.items.now) × (now.coder.now ≡ start.coder.now) × (now.frames ≡ start.frames ++ map (frame_in start.coder.now (map item_plain start.items.now)) rows) };
+    ghost took = { λ start rows now. (variable_count (map item_plain start.items.now) < 2 ^ 32) × (now.items.now ≡ start.items.now) × (now.coder ≡ start.coder) × (now.frames ≡ start.frames ++ map (frame_in start.coder (map item_plain start.items.now)) rows) };
 
     fn take_row(&mut self, alloc: Global, values: &[Seen]) -> Result<(), NoMemory> {
-        let frame = frame_of(alloc, self.items, self.coder, values)?;
+        let frame = frame_of(alloc, self.items, &self.coder, values)?;
         self.frames.push(frame)
     }
 }
@@ -71,31 +71,52 @@ impl<'a> TakesRows for FrameRows<'a> {
 /// has the first value of its type.
 ///
 /// `Err` is the judge's verdict where it says No to the run and invariant j, with the step and the clause. Otherwise
-/// `Err` is out of memory. Time and memory are linear in the states times the items. `listed` says that each state and
-/// label names its variables in the order of the items, so that the judge looks no name up.
-pub fn lower_flat(
-    alloc: Global,
-    flat: &Flat,
-    j: u32,
-    run: &Run,
-    listed: bool,
-) -> Result<Witness, LowerEnd>
+/// `Err` is out of memory. Time and memory are linear in the states times the items.
+pub fn lower_flat(alloc: Global, flat: &Flat, j: u32, run: &Run) -> Result<Witness, LowerEnd>
     requires model { HasForm flat.now }
     requires few { length run.now.states < 2 ^ 32 }
-    requires listed { listed ≡ true → IsListedRun (flat_plain flat.now) run.now }
     ensures lowered { IfOk result (λ w. (source : PlainSource) → IsFormOf source flat.now → w ≡ lowered source j run.now) }
     ensures judged { IfOk result (λ w. (source : PlainSource) → IsFormOf source flat.now → verdict_on source j run.now ≡ Yes) }
     ensures refused { IfErr result (λ e. (source : PlainSource) → IsFormOf source flat.now → IsLowerEnd source j run.now e) }
 {
-    symbols_differ();
-    let coder = Coder::of(alloc, flat)?;
     let frames = FrameList::with_capacity(alloc, run.states.len())?;
     let mut rows = FrameRows {
         items: flat.items().as_slice(),
-        coder: &coder,
+        coder: Coder::of(flat),
         frames,
     };
-    match judge_rows(alloc, flat, j, run, listed, &mut rows)? {
+    match judge_rows(alloc, flat, j, run, false, &mut rows)? {
+        Verdict::Yes => Ok(Witness {
+            bad: j,
+            frames: rows.frames,
+        }),
+        Verdict::No(step, clause) => Err(LowerEnd::No(step, clause)),
+    }
+}
+
+/// Returns the witness that `lower_flat` returns for the run that is stated by the numbers of the flat form's items.
+///
+/// No name is looked up, and no list of names is made.
+pub fn lower_numbered(
+    alloc: Global,
+    flat: &Flat,
+    j: u32,
+    run: &NumberedRun,
+) -> Result<Witness, LowerEnd>
+    requires model { HasForm flat.now }
+    requires few { length run.now.ends < 2 ^ 32 }
+    requires numbered { IsNumbered run.now }
+    ensures lowered { IfOk result (λ w. (source : PlainSource) → IsFormOf source flat.now → w ≡ lowered source j (run_in (flat_plain flat.now).items run.now)) }
+    ensures judged { IfOk result (λ w. (source : PlainSource) → IsFormOf source flat.now → verdict_on source j (run_in (flat_plain flat.now).items run.now) ≡ Yes) }
+    ensures refused { IfErr result (λ e. (source : PlainSource) → IsFormOf source flat.now → IsLowerEnd source j (run_in (flat_plain flat.now).items run.now) e) }
+{
+    let frames = FrameList::with_capacity(alloc, run.ends.len())?;
+    let mut rows = FrameRows {
+        items: flat.items().as_slice(),
+        coder: Coder::of(flat),
+        frames,
+    };
+    match judge_numbered_rows(alloc, flat, j, run, &mut rows)? {
         Verdict::Yes => Ok(Witness {
             bad: j,
             frames: rows.frames,
@@ -118,7 +139,7 @@ pub fn lower_smv(alloc: Global, source: &Source, j: u32, run: &Run) -> Result<Wi
     ensures refused { IfErr result (IsLowerEnd (plain_source source.now) j run.now) }
 {
     match flatten(alloc, source, j) {
-        Ok(flat) => lower_flat(alloc, &flat, j, run, false),
+        Ok(flat) => lower_flat(alloc, &flat, j, run),
         Err(FlatEnd::Bad(_)) => unreachable!(),
         Err(FlatEnd::NoMemory) => Err(LowerEnd::NoMemory),
     }

@@ -1,6 +1,6 @@
 // The words of values.
-ghost use Rattle.std.specs.Prelude.{◌≡◌, ◌<◌, ◌≤◌, ◌^◌, [], true, length, IfOk};
-ghost use Rattle.name_maps.specs.Names.{are_fresh, place_of};
+ghost use Rattle.std.specs.Prelude.{◌≡◌, ◌<◌, ◌≤◌, ◌^◌, length};
+ghost use Rattle.name_maps.specs.Names.{place_of};
 ghost use Rattle.smv_operators.specs.View.{seen_value};
 ghost use Rattle.smv_script.specs.Codes.{integer_bits, integer_word, number_or_zero};
 ghost use Rattle.moxi_lines.specs.Codes.{choice_width};
@@ -10,42 +10,27 @@ use moxi_to_btor::choice_width;
 use name_maps::NameSet;
 use smv_flatten::Flat;
 use smv_operators::Seen;
-use std::alloc::Global;
 use std::marker::Model;
-use text_core::{Names, NoMemory};
 use word_core::Word;
 
 /// The data needed to encode values: the width of integers, the symbols, and the width of a symbol's place.
-#[derive(Drop)]
-pub struct Coder {
+#[derive(Clone, Copy)]
+pub struct Coder<'f> {
     width: u32,
-    symbols: NameSet,
+    symbols: &'f NameSet,
     symbol_width: u32,
 }
 
-impl Model for Coder {
+impl<'f> Model for Coder<'f> {
     ghost use Rattle.std.specs.Prelude.{◌≡◌, ◌<◌, ◌≤◌, ◌^◌, length};
     ghost use Rattle.moxi_lines.specs.Codes.{choice_width};
     ghost use Rattle.trace_lower.specs.Stating.{Codes};
 
     ghost Value = { Codes };
 
-    ghost view = { λ c. record { width = c.width; symbols = c.symbols } };
+    ghost view = { λ c. record { width = c.width; symbols = c.symbols.now } };
 
-    ghost invariant = { λ c. (1 ≤ c.width) × (c.width ≤ 64) × (length c.symbols < 2 ^ 64) × (c.symbol_width ≡ choice_width (length c.symbols)) };
-}
-
-// The symbols with their places. They are distinct.
-fn symbol_set(alloc: Global, symbols: &Names) -> Result<NameSet, NoMemory>
-    requires { are_fresh [] symbols.now ≡ true }
-    ensures { IfOk result (λ s. s ≡ symbols.now) }
-{
-    let mut set = NameSet::new(alloc);
-    if set.declare_all(alloc, symbols)? {
-        Ok(set)
-    } else {
-        unreachable!()
-    }
+    ghost invariant = { λ c. (1 ≤ c.width) × (c.width ≤ 64) × (length c.symbols.now < 2 ^ 64) × (c.symbol_width ≡ choice_width (length c.symbols.now)) };
 }
 
 // The number of integers of this width.
@@ -80,21 +65,18 @@ fn integer_word(width: u32, z: i64) -> Word
     Word::of(width, integer_bits(width, z)).unwrap()
 }
 
-impl Coder {
+impl<'f> Coder<'f> {
     /// Creates the coder of a flat form.
-    pub fn of(alloc: Global, flat: &Flat) -> Result<Coder, NoMemory>
-        // The symbols are distinct.
-        requires { are_fresh [] flat.now.symbols ≡ true }
-        ensures width { IfOk result (λ c. c.width ≡ flat.now.width) }
-        ensures symbols { IfOk result (λ c. c.symbols ≡ flat.now.symbols) }
+    pub fn of(flat: &'f Flat) -> Coder<'f>
+        ensures width { result.width ≡ flat.now.width }
+        ensures symbols { result.symbols ≡ flat.now.symbols }
     {
-        let symbols = symbol_set(alloc, flat.symbols())?;
-        let symbol_width = choice_width(symbols.len());
-        Ok(Coder {
+        let symbols = flat.symbols();
+        Coder {
             width: flat.width(),
             symbols,
-            symbol_width,
-        })
+            symbol_width: choice_width(symbols.len()),
+        }
     }
 
     // The place of a symbol.

@@ -6,11 +6,8 @@ use Rattle.smv_items.specs.FlatItems.{PlainFlatItem}
 use Rattle.smv_items.specs.FlatItemView.{item_plain}
 use Rattle.smv_flatten.specs.FlatModel.{flat_plain}
 use Rattle.trace_lower.specs.Stating.{variable_count}
-use Rattle.trace_lower.proofs.States.{few_items, form_is_flat, symbols_fresh, taken_are}
+use Rattle.trace_lower.proofs.States.{few_items, form_is_flat, taken_are}
 use Rattle.trace_lower.proofs.lower.lower_flat.Goals as goal
-
-pub of-requires : goal.of-requires
-of-requires c = symbols_fresh c.args.flat.now c.requires.model.0 c.requires.model.1 c.symbols_differ.ensures
 
 pub judge_rows-requires-clause-model : goal.judge_rows-requires-clause-model
 judge_rows-requires-clause-model c = (c.requires.model.0, form_is_flat c.requires.model.0 c.args.flat.now c.requires.model.1)
@@ -25,5 +22,5 @@ pub returns-in-Yes-clause-lowered : goal.returns-in-Yes-clause-lowered
 returns-in-Yes-clause-lowered c = λ source m.
     let h = c.in_ok-judge_rows.ensures.taken c.in-Yes.is in
     ap (λ (fs : List Frame). let w : Witness = record { bad = c.args.j; frames = fs } in w)
-    (taken_are source c.args.flat.now c.in_ok-coder.coder c.args.run.now.states c.args.run.now.labels c.in_ok-frames.frames c.judge_rows.new.taker.frames m c.in_ok-coder.ensures.width c.in_ok-coder.ensures.symbols
+    (taken_are source c.args.flat.now c.of.result c.args.run.now.states c.args.run.now.labels c.in_ok-frames.frames c.judge_rows.new.taker.frames m c.of.ensures.width c.of.ensures.symbols
     (map item_plain c.as_slice.result.now) (ap (map item_plain) (c.as_slice.ensures ∙ c.items.ensures)) h.rows c.in_ok-frames.ensures h.taken.3 h.are)

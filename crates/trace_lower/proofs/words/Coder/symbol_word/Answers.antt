@@ -14,4 +14,4 @@ unwrap-requires c =
     let place = c.symbol_place.ensures ∙ sym (ap (λ xs. number_or_zero (place_of xs c.args.symbol.now)) symbols) in
     c.of.ensures.there.1
     (subst (λ w. IsWord (record { width = w; bits = c.symbol_place.result })) (sym c.self.invariant.3)
-    (subst (λ b. IsWord (record { width = choice_width (length i.symbols); bits = b })) (sym place) (symbol_is_word i.symbols c.args.symbol.now c.self.invariant.2)))
+    (subst (λ b. IsWord (record { width = choice_width (length i.symbols.now); bits = b })) (sym place) (symbol_is_word i.symbols.now c.args.symbol.now c.self.invariant.2)))
