@@ -14,7 +14,7 @@ use std::marker::Model;
 use word_core::Word;
 
 /// The data needed to encode values: the width of integers, the symbols, and the width of a symbol's place.
-#[derive(Clone, Copy)]
+#[derive(Drop)]
 pub struct Coder<'f> {
     width: u32,
     symbols: &'f NameSet,
