@@ -386,7 +386,7 @@ pub(crate) fn single_in<'f>(
     requires in_range { forms_excess (map form_plain parts.formulas.now) ≡ 0 }
     requires some { 1 ≤ width }
     requires low { width ≤ 64 }
-    ensures { IfOk result (λ s. plain_single s ≡ script_form (parts_plain parts) width) }
+    ensures { IfOk result (λ s. plain_single s ≡ script_form (parts_plain parts.entry) width) }
 {
     let flat = SmallFlat { parts };
     let coding = coding_of(alloc, width, parts.items)?;
