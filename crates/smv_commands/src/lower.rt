@@ -64,12 +64,7 @@ impl<'a> LastFile for LowerTrace<'a> {
 }
 
 // The printed witness that states a run, or the judge's verdict No on the run.
-fn run_answer(
-    alloc: Global,
-    chain: &SmvChain,
-    j: u32,
-    run: &NumberedRun,
-) -> Result<Answer, Stop>
+fn run_answer(alloc: Global, chain: &SmvChain, j: u32, run: &NumberedRun) -> Result<Answer, Stop>
     requires model { (source : PlainSource) × IsFormOf source chain.now }
     requires few { length run.now.ends < 2 ^ 32 }
     requires numbered { IsNumbered run.now }
