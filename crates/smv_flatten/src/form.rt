@@ -84,7 +84,7 @@ impl Flat {
 
     /// Returns an order of the items in which each body comes after the items that it reads.
     ///
-    /// It has each definition and each actual once, and no variable.
+    /// It has each item with a body once.
     pub fn order(&self) -> &[usize]
         ensures { IsOrdered self.now result.now }
     {

@@ -34,7 +34,7 @@ use std::alloc::Global;
 use std::mem;
 use text_core::{Clause, NoMemory, Verdict};
 
-// Hands on the row of the last state, under the label that the other row has the inputs of.
+// Passes on the row of the last state under the label whose inputs the other row has.
 fn take_last<'a, T: TakesRows>(
     alloc: Global,
     flat: &FlatParts<'a>,
@@ -54,7 +54,7 @@ fn take_last<'a, T: TakesRows>(
     Ok(())
 }
 
-// The verdict on the states behind the first one, of which the row is. With Yes, the row of each state is passed on.
+// The verdict on the states after the first one, whose row is given. With Yes, the row of each state is passed on.
 fn judge_steps<'a, T: TakesRows>(
     alloc: Global,
     flat: &FlatParts<'a>,
@@ -268,7 +268,7 @@ pub fn judge_flat(alloc: Global, flat: &Flat, j: u32, run: &Run) -> Result<Verdi
 
 /// Returns the verdict of `judge_flat` on a run that names its variables in the order of the items.
 ///
-/// `read_trace` returns such runs. No name is looked up.
+/// Lifted runs are such. No name is looked up.
 pub fn judge_listed(alloc: Global, flat: &Flat, j: u32, run: &Run) -> Result<Verdict, NoMemory>
     requires model { (source : PlainSource) × IsFlatOf source (flat_plain flat.now) }
     requires few { length run.now.states < 2 ^ 32 }
