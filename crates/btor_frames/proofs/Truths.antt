@@ -12,10 +12,7 @@ use Rattle.btor_tree.specs.declared.lines.LineOp.TheVariants.{Bad}
 use Rattle.btor_tree.specs.Fits.{AreEarlier, OnOne, OpFits, IsWellFormed, count_of, operands, is_bad, is_constraint}
 use Rattle.btor_tree.specs.Frame.{operand, true_word, ConstraintsHold, IsBad}
 use Rattle.btor_frames.proofs.Finding.{earlier_inside}
-
-all_append : {X : Type 0} (P : X → Type 0) (xs ys : List X) → AllByRecursion P xs → AllByRecursion P ys → AllByRecursion P (xs ++ ys)
-all_append P [] ys a b = b
-all_append P (x ∷ xs) ys a b = (a.0, all_append P xs ys a.1 b)
+use Rattle.text_core.proofs.ListLaws.{all_append}
 
 pub all_at : {X : Type 0} (P : X → Type 0) (xs : List X) (i : ℕ) (x : X) → i < length xs → x ≡ get_or xs i x → AllByRecursion P xs → P x
 all_at P [] i x h e a = absurd (omega (arith, h))

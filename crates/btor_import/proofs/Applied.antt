@@ -1,8 +1,7 @@
 -- Applications whose arguments have their sorts can appear where nothing is declared.
-use Rattle.std.proofs.Common.{◌≡◌, ℕ, zero, suc, ◌+◌, ◌-◌, ◌^◌, ◌<◌, ◌≤◌, Bool, true, false, cond, nat_le, nat_lt, ◌==◌, if◌then◌else◌, List, [], ◌∷◌, length, Option, Some, None, Ok, Err, option_map, refl, sym, ap, ◌∙◌, subst, arith}
+use Rattle.std.proofs.Common.{◌≡◌, ℕ, zero, suc, ◌+◌, ◌-◌, ◌^◌, ◌<◌, ◌≤◌, Bool, true, false, nat_le, nat_lt, ◌==◌, if◌then◌else◌, List, [], ◌∷◌, length, Some, Ok, Err, option_map, refl, sym, ap, subst, arith}
 use Rattle.std.proofs.lemmas.Bool.{and_from, eqb-true, eqb-false, lt-ltb, le-leb}
 use Rattle.std.proofs.Math.Nat.{one-le-pow}
-use Rattle.std.specs.List.{list_all}
 use Rattle.text_core.specs.declared.place.Kind.TheVariants.{M}
 use Rattle.word_core.specs.declared.word.TheConstants.{WIDEST}
 use Rattle.word_core.specs.declared.kinds.Unary.{Unary}
@@ -20,35 +19,17 @@ use Rattle.moxi_terms.specs.declared.names.Head.TheVariants as heads
 use Rattle.moxi_terms.specs.Names.{no_scope}
 use Rattle.moxi_terms.specs.Words.{operators, operator_named}
 use Rattle.moxi_terms.specs.Meanings.{head_named}
-use Rattle.moxi_terms.specs.Sorts.{same_sort, common, count_fits, logical, compared, chosen, calculated, fitting, op_sort}
-use Rattle.moxi_terms.specs.Tree.{Tree, apply, Trees, no_trees, tree, trees_of}
+use Rattle.moxi_terms.specs.Sorts.{common, count_fits, logical, calculated, fitting, op_sort}
+use Rattle.moxi_terms.specs.Tree.{Tree, apply, Trees, tree, trees_of}
 use Rattle.moxi_term_reading.specs.declared.locals.Local.{Local}
 use Rattle.moxi_term_reading.specs.Reading.{Context}
 use Rattle.moxi_term_print.specs.Terms.{operator_word, binary_word}
 use Rattle.moxi_term_print.specs.WellScoped.{IsWellScoped, AreWellScoped, IsKnownOperator}
-use Rattle.btor_import.specs.Operators.{one, two, word_term, not_term, words_term, equal_term, choice_term, truth_term, falsity_term, is_one, bits_from, parity_term, unary_term, binary_term}
-use Rattle.moxi_term_print.proofs.SortedTerms.{copies, counted, same_self, two_fit}
+use Rattle.btor_import.specs.Operators.{word_term, not_term, truth_term, falsity_term, is_one, bits_from, parity_term, unary_term, binary_term}
+use Rattle.moxi_term_print.proofs.SortedTerms.{copies, counted, common_copies, words_sort, equal_sort, choice_sort}
+use Rattle.moxi_terms.specs.Applications.{one, two, words_term, equal_term, choice_term}
 
 -- ---- sorts of applications
-
-all_same : (s : Sort) (ts : Trees) → list_all (same_sort s) (copies s ts) ≡ true
-all_same s no_trees = refl
-all_same s (tree t ts) = and_from (same_sort s s) (list_all (same_sort s) (copies s ts)) (same_self s) (all_same s ts)
-
-common_copies : (s : Sort) (ts : Trees) → common (s ∷ copies s ts) ≡ Some s
-common_copies s ts = ap (λ b. cond b (Some s) None) (all_same s ts)
-
-common_two : (s : Sort) → common (s ∷ s ∷ []) ≡ Some s
-common_two s = ap (λ b. cond b (Some s) None) (and_from (same_sort s s) true (same_self s) refl)
-
-words_sort : (b : Binary) (m : ℕ) (z : Sort) → calculated b (Some (Bits m)) ≡ Ok z → op_sort (op.BvBinary b) (Bits m ∷ Bits m ∷ []) ≡ Ok z
-words_sort b m z e = counted (op.BvBinary b) (Bits m ∷ Bits m ∷ []) z (two_fit b) (ap (calculated b) (common_two (Bits m)) ∙ e)
-
-equal_sort : (s : Sort) → op_sort op.Equal (s ∷ s ∷ []) ≡ Ok Truth
-equal_sort s = ap (λ (o : Option Sort). compared o) (common_two s)
-
-choice_sort : (s : Sort) → op_sort op.Ite (Truth ∷ s ∷ s ∷ []) ≡ Ok s
-choice_sort s = ap (λ (o : Option Sort). chosen o) (common_two s)
 
 -- ---- operators mean what their names say
 

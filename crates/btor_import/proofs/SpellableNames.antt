@@ -21,7 +21,7 @@ use Rattle.moxi_term_print.proofs.StandingNumbers.{decimal_run}
 use Rattle.moxi_scripts.specs.declared.script.Query.{Query}
 use Rattle.moxi_script_print.specs.NamesOfScripts.{HasSpellableNames, VariablesAreSpellable, IsSpellableFormula}
 use Rattle.btor_import.specs.Operators.{argument, bits_from, binary_term, is_one, line_term, not_term, operand_term, parity_term, unary_term}
-use Rattle.btor_import.specs.Script.{all_term, equation_term, formula_of, import_of, init_part, inv_part, is_local, lines_in, number_of, parts_from, queries_from, reachables_from, trans_part, value_part}
+use Rattle.btor_import.specs.Script.{equation_term, formula_of, import_of, init_part, inv_part, is_local, lines_in, number_of, parts_from, queries_from, reachables_from, trans_part, value_part}
 use Rattle.btor_import.proofs.Lists.{all_by}
 use Rattle.moxi_script_print.proofs.SpelledCommands.{all_bytes, barred_spellable, not_barred}
 use Rattle.btor_import.proofs.Standing.{parts_all}
@@ -29,6 +29,7 @@ use Rattle.btor_import.proofs.LineVariables.{all_variables, inputs_of, id_small,
 use Rattle.btor_import.proofs.Whole.{bads_few}
 use Rattle.moxi_term_print.proofs.SpellableNames.{Named, run_all}
 use Rattle.name_maps.proofs.FreshNames.{all_back, all_front}
+use Rattle.moxi_terms.specs.Applications.{all_term}
 
 -- ---- names with numbers
 

@@ -36,13 +36,14 @@ use Rattle.moxi_term_reading.specs.Answer.{locals_of}
 use Rattle.moxi_term_print.specs.Terms.{name_at, variable_names}
 use Rattle.moxi_term_print.specs.WellScoped.{AreWellScoped, IsAllowedPrime}
 use Rattle.btor_import.specs.Operators.{argument, is_one, line_term, not_term, operand_term}
-use Rattle.btor_import.specs.Script.{all_term, equation_term, formula_of, init_part, inv_part, is_local, lines_in, number_of, parts_from, reachables_from, trans_part, value_part}
+use Rattle.btor_import.specs.Script.{equation_term, formula_of, init_part, inv_part, is_local, lines_in, number_of, parts_from, reachables_from, trans_part, value_part}
 use Rattle.moxi_scripts.specs.Script.{PlainFormula}
 use Rattle.btor_import.proofs.Applied.{IsTerm, and_stands, binary_stands, choice_stands, context_of, equal_stands, extract_stands, not_stands, one_stands, signs_stand, unary_stands, word_stands, zeros_stand}
 use Rattle.btor_import.proofs.Lists.{all_by, differ_by, mapped_at}
 use Rattle.btor_import.proofs.LineVariables.{all_variables, letter_by, line_of_variable, local_word, one_name, picked, variable_for, variable_there}
 use Rattle.moxi_term_print.proofs.SortedTerms.{copies}
 use Rattle.name_maps.proofs.FreshNames.{AllDiffer, Lacks, all_joined, tells_apart}
+use Rattle.moxi_terms.specs.Applications.{all_term}
 
 -- ---- names of variables mean them
 

@@ -8,37 +8,19 @@ use Rattle.btor_tree.specs.Fits.{is_bad}
 use Rattle.moxi_terms.specs.declared.term.Variable.{Variable}
 use Rattle.moxi_terms.specs.declared.data.TermOp.TheVariants as op
 use Rattle.moxi_terms.specs.Tree.{Tree, apply}
-use Rattle.btor_import.specs.Operators.{bits_from, one}
+use Rattle.btor_import.specs.Operators.{bits_from}
 use Rattle.moxi_scripts.specs.declared.script.Formula.{Formula}
 use Rattle.moxi_scripts.specs.declared.script.Query.{Query}
-use Rattle.moxi_scripts.specs.Script.{PlainFormula, plain_formula}
+use Rattle.moxi_scripts.specs.Script.{PlainFormula, plain_formula, query_of}
 use Rattle.btor_import.specs.Assembling.{variables_for}
-use Rattle.btor_import.specs.Script.{lines_in, parts_from, query_of, queries_from, reachable_of, reachables_from, variable_of}
+use Rattle.btor_import.specs.Script.{lines_in, parts_from, queries_from, reachable_of, reachables_from, variable_of}
+use Rattle.text_core.proofs.ListLaws.{grown, joined, put}
+use Rattle.moxi_terms.specs.Applications.{one}
 
 pub drop_there : {X : Type 0} (xs : List X) (i : ℕ) (x : X) → slice_get xs i ≡ Some x → drop i xs ≡ x ∷ drop (i + 1) xs
 drop_there [] i x h = absurd (none-some x h)
 drop_there (y ∷ ys) zero x h = ap (λ z. z ∷ ys) (same_Some y x h)
 drop_there (y ∷ ys) (suc i) x h = drop_there ys i x h ∙ ap (λ n. x ∷ drop n (y ∷ ys)) (let e : suc (i + 1) ≡ suc i + 1 = omega arith in e)
-
-pub grown : {A : Type 0} (xs : List A) (x : A) → length (xs ++ x ∷ []) ≡ length xs + 1
-grown [] x = refl
-grown (y ∷ xs) x = let r = grown xs x in omega (arith, r)
-
-joined : {A B : Type 0} (g : A → B) (xs : List A) (x : A) (ys : List B) → map g (xs ++ x ∷ []) ++ ys ≡ map g xs ++ g x ∷ ys
-joined g [] x ys = refl
-joined g (z ∷ xs) x ys = ap (λ zs. g z ∷ zs) (joined g xs x ys)
-
-put : {A : Type 0} (xs : List A) (x : A) (ys : List A) → (xs ++ x ∷ []) ++ ys ≡ xs ++ x ∷ ys
-put [] x ys = refl
-put (z ∷ xs) x ys = ap (λ zs. z ∷ zs) (put xs x ys)
-
-pub map_end : {A B : Type 0} (g : A → B) (xs : List A) (x : A) → map g (xs ++ x ∷ []) ≡ map g xs ++ g x ∷ []
-map_end g [] x = refl
-map_end g (y ∷ xs) x = ap (λ ys. g y ∷ ys) (map_end g xs x)
-
--- the new list is the old one with an element, of which this is made
-pub pushed : {A B : Type 0} (g : A → B) (xs ys : List A) (x : A) (b : B) → ys ≡ xs ++ x ∷ [] → g x ≡ b → map g ys ≡ map g xs ++ b ∷ []
-pushed g xs ys x b h e = ap (map g) h ∙ map_end g xs x ∙ ap (λ c. map g xs ++ c ∷ []) e
 
 -- ---- parts
 

@@ -1,9 +1,8 @@
 -- The script of well-formed lines is valid.
-use Rattle.std.proofs.Common.{◌≡◌, ℕ, zero, suc, ◌+◌, ◌≤◌, ◌<◌, ◌^◌, true, false, List, [], ◌∷◌, ◌++◌, drop, length, decimal, Some, refl, sym, ap, subst, arith}
-use Rattle.std.specs.Prelude.{slice_get, codes}
+use Rattle.std.proofs.Common.{◌≡◌, ℕ, suc, ◌+◌, ◌≤◌, ◌<◌, ◌^◌, false, List, [], ◌∷◌, ◌++◌, drop, length, decimal, refl, sym, ap, subst, arith}
+use Rattle.std.specs.Prelude.{codes}
 use Rattle.std.specs.List.{AllByRecursion}
 use Rattle.std.proofs.lemmas.Fmt.{decimal_injective}
-use Rattle.digraph.specs.Graph.{is_in}
 use Rattle.digraph.proofs.Sorting.{never_returns}
 use Rattle.btor_tree.specs.declared.lines.Line.{Line}
 use Rattle.btor_tree.specs.Fits.{IsWellFormed, is_bad}
@@ -20,9 +19,8 @@ use Rattle.btor_import.proofs.Standing.{IsFree, all_free, sort_some, init_stands
 use Rattle.btor_import.proofs.LineVariables.{all_variables, line_of_variable, lines_long}
 use Rattle.moxi_term_reading.specs.laws.AllLaws.{all_at}
 use Rattle.name_maps.proofs.FreshNames.{AllDiffer, Lacks, all_fresh, all_mapped}
-
-nothing_there : {X : Type 0} {Y : Type 0} (n : ℕ) (x : X) → slice_get (let e : List X = [] in e) n ≡ Some x → Y
-nothing_there n x h = cc
+use Rattle.text_core.proofs.ListLaws.{nothing_there}
+use Rattle.digraph.proofs.Lists.{only_node}
 
 whole_scope : IsValidScope no_scope
 whole_scope = record {
@@ -59,10 +57,6 @@ reachables_long number j (b ∷ bs) = ap suc (reachables_long number (j + 1) bs)
 queries_whole : (n j : ℕ) (ls : List Line) → j + length ls ≤ n → AllByRecursion (IsValidQuery 0 0 n) (queries_from j ls)
 queries_whole n j [] h = tt
 queries_whole n j (b ∷ bs) h = (record { assumptions_there = tt; currents_there = tt; reachables_there = (omega (arith, h), tt); reachables_differ = refl }, queries_whole n (j + 1) bs (omega (arith, h)))
-
-only_node : (k : ℕ) → k < 1 → is_in (0 ∷ []) k ≡ true
-only_node zero h = refl
-only_node (suc k) h = absurd (omega (arith, h))
 
 module _ (lines : List Line) (well : IsWellFormed lines) where
   -- there are few bad lines

@@ -12,18 +12,10 @@ use Rattle.btor_tree.specs.Fits.{plain_arg}
 use Rattle.btor_tree.specs.Frame.{constant_word}
 use Rattle.moxi_terms.specs.declared.data.Datum.TheVariants as datum
 use Rattle.moxi_terms.specs.declared.data.TermOp.TheVariants as op
-use Rattle.moxi_terms.specs.Tree.{Tree, constant, variable, apply, Trees, no_trees, tree, trees_of}
+use Rattle.moxi_terms.specs.Tree.{Tree, constant, variable, apply, trees_of}
+use Rattle.moxi_terms.specs.Applications.{one, two, words_term, equal_term, choice_term}
 
 -- ---- applications
-
-abbrev pub one : Tree → Trees
-one a = tree a no_trees
-
-abbrev pub two : Tree → Tree → Trees
-two a b = tree a (one b)
-
-abbrev pub three : Tree → Tree → Tree → Trees
-three a b c = tree a (two b c)
 
 -- a word of so many digits
 abbrev pub word_term : ℕ → ℕ → Tree
@@ -31,15 +23,6 @@ word_term width bits = constant (datum.Bits (record { width = width; bits = bits
 
 abbrev pub not_term : Tree → Tree
 not_term a = apply (op.BvUnary OnWord.Not) (one a)
-
-abbrev pub words_term : Binary → Tree → Tree → Tree
-words_term o a b = apply (op.BvBinary o) (two a b)
-
-abbrev pub equal_term : Tree → Tree → Tree
-equal_term a b = apply op.Equal (two a b)
-
-abbrev pub choice_term : Tree → Tree → Tree → Tree
-choice_term c a b = apply op.Ite (three c a b)
 
 -- one bit that is 1 where the formula is true, and one that is 1 where it is false
 abbrev pub truth_term : Tree → Tree

@@ -12,10 +12,11 @@ use Rattle.moxi_terms.specs.declared.data.Sort.TheVariants.{Bits}
 use Rattle.moxi_terms.specs.declared.data.TermOp.TheVariants as op
 use Rattle.moxi_terms.specs.declared.term.Variable.{Variable}
 use Rattle.moxi_terms.specs.Names.{no_scope}
-use Rattle.moxi_terms.specs.Tree.{Tree, constant, variable, apply, trees_of}
+use Rattle.moxi_terms.specs.Tree.{Tree, constant, variable}
 use Rattle.moxi_scripts.specs.declared.script.Query.{Query}
-use Rattle.moxi_scripts.specs.Script.{PlainSystem, PlainFormula, PlainCheck, PlainScript}
-use Rattle.btor_import.specs.Operators.{argument, equal_term, is_one, line_term, operand_term}
+use Rattle.moxi_scripts.specs.Script.{PlainSystem, PlainFormula, PlainCheck, PlainScript, query_of}
+use Rattle.btor_import.specs.Operators.{argument, is_one, line_term, operand_term}
+use Rattle.moxi_terms.specs.Applications.{equal_term, all_term}
 
 -- ---- variables: of input lines, then of state lines, then of constant and operator lines, each in the order of the lines
 
@@ -47,12 +48,6 @@ abbrev pub number_of : List Line → ℕ → ℕ
 number_of lines i = number_among lines (take i lines) (slice_get lines i)
 
 -- ---- formulas: the parts that lines give, in their order
-
--- no part is true, one part is itself
-abbrev pub all_term : List Tree → Tree
-all_term [] = constant (datum.Truth true)
-all_term (t ∷ []) = t
-all_term (t ∷ u ∷ ts) = apply op.And (trees_of (t ∷ u ∷ ts))
 
 -- A state line, which is primed in transitions, has a value. Here and below the number of each line's variable is given.
 abbrev pub value_part : (ℕ → ℕ) → Bool → List Arg → Tree
@@ -103,9 +98,6 @@ reachable_of number j l = record { name = codes "b." ++ decimal j; term = is_one
 abbrev pub reachables_from : (ℕ → ℕ) → ℕ → List Line → List PlainFormula
 reachables_from number j [] = []
 reachables_from number j (l ∷ ls) = reachable_of number j l ∷ reachables_from number (j + 1) ls
-
-abbrev pub query_of : ℕ → Query
-query_of j = record { name = codes "q." ++ decimal j; assumptions = []; currents = []; reachables = j ∷ [] }
 
 abbrev pub queries_from : ℕ → List Line → List Query
 queries_from j [] = []

@@ -2,10 +2,10 @@
 ghost use Rattle.std.specs.Prelude.{◌≡◌, ◌++◌, [], IfOk, codes, map};
 ghost use Rattle.btor_tree.specs.Fits.{is_bad};
 ghost use Rattle.moxi_scripts.specs.Invariant.{IsSpelled};
-ghost use Rattle.moxi_scripts.specs.Script.{plain_check, plain_formula, plain_system};
+ghost use Rattle.moxi_scripts.specs.Script.{plain_check, plain_formula, plain_system, query_of};
 ghost use Rattle.moxi_scripts.specs.ScriptView.{plain_script};
 ghost use Rattle.btor_import.specs.Assembling.{check_form, number_at, script_with, system_form};
-ghost use Rattle.btor_import.specs.Script.{import_of, lines_in, number_of, queries_from, query_of, reachable_of, reachables_from};
+ghost use Rattle.btor_import.specs.Script.{import_of, lines_in, number_of, queries_from, reachable_of, reachables_from};
 
 use crate::laws::scripts_are_spelled;
 use crate::numbers::numbers_of;

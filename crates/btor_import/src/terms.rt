@@ -7,7 +7,8 @@ ghost use Rattle.btor_tree.specs.Frame.{constant_word};
 ghost use Rattle.word_core.specs.Words.{IsWord};
 ghost use Rattle.btor_import.specs.Widths.{HasOperandWidth, IsWidth};
 ghost use Rattle.btor_import.specs.Assembling.{number_at};
-ghost use Rattle.btor_import.specs.Operators.{argument, binary_term, bits_from, choice_term, falsity_term, equal_term, is_one, line_term, not_term, one, operand_term, parity_term, truth_term, unary_term, word_term, words_term};
+ghost use Rattle.btor_import.specs.Operators.{argument, binary_term, bits_from, falsity_term, is_one, line_term, not_term, operand_term, parity_term, truth_term, unary_term, word_term};
+ghost use Rattle.moxi_terms.specs.Applications.{one, words_term, equal_term, choice_term};
 
 use crate::numbers::{number_at, sort_at, width_at};
 use crate::operators::{

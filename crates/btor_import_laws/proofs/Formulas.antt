@@ -9,8 +9,7 @@ use Rattle.moxi_terms.specs.Operators.{same, truth_of}
 use Rattle.moxi_terms.specs.Tree.{Tree, trees_of}
 use Rattle.moxi_terms.specs.Value.{Calls, Values, term_value, term_values}
 use Rattle.moxi_scripts.specs.Behaviour.{Holds}
-use Rattle.btor_import.specs.Operators.{equal_term}
-use Rattle.btor_import.specs.Script.{all_term}
+use Rattle.moxi_terms.specs.Applications.{equal_term, all_term}
 
 is_truth : (d : Datum) → truth_of d ≡ true → d ≡ Truth true
 is_truth (Truth b) h = ap Truth h

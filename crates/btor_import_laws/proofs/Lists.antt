@@ -1,5 +1,5 @@
 -- Lists of lines: the arguments of lines of a kind, the parts of formulas, and the values of states.
-use Rattle.std.proofs.Common.{◌≡◌, ℕ, zero, suc, ◌+◌, Bool, true, false, cond, if◌then◌else◌, List, [], ◌∷◌, ◌++◌, map, take, drop, length, Some, None, refl, sym, ap, ◌∙◌, subst, arith, inl, inr, eqb}
+use Rattle.std.proofs.Common.{◌≡◌, ℕ, zero, suc, ◌+◌, Bool, true, false, cond, if◌then◌else◌, List, [], ◌∷◌, ◌++◌, map, take, drop, length, Some, None, refl, sym, ap, ◌∙◌, subst, arith}
 use Rattle.std.specs.Prelude.{slice_get}
 use Rattle.std.specs.Option.{option_or}
 use Rattle.std.specs.List.{AllByRecursion}
@@ -9,16 +9,14 @@ use Rattle.std.proofs.lemmas.Option.{same_Some, none-some}
 use Rattle.btor_tree.specs.declared.args.Arg.{Arg}
 use Rattle.btor_tree.specs.declared.lines.Line.{Line}
 use Rattle.btor_tree.specs.declared.lines.LineOp.{LineOp}
-use Rattle.btor_tree.specs.Fits.{is_bad, operands, state_value, value_for, value_in}
+use Rattle.btor_tree.specs.Fits.{is_bad, operands, state_value, value_for}
 use Rattle.btor_tree.proofs.Paths.{state_value_append}
-use Rattle.btor_tree.proofs.Widths.{option_cases}
 use Rattle.moxi_terms.specs.Tree.{Tree}
 use Rattle.moxi_scripts.specs.declared.script.Query.{Query}
-use Rattle.moxi_scripts.specs.Script.{formula_at}
+use Rattle.moxi_scripts.specs.Script.{formula_at, query_of}
 use Rattle.btor_import.specs.Operators.{argument, is_one, operand_term}
-use Rattle.btor_import.specs.Script.{lines_in, parts_from, queries_from, query_of, reachables_from}
+use Rattle.btor_import.specs.Script.{lines_in, parts_from, queries_from, reachables_from}
 use Rattle.btor_import.proofs.Steps.{drop_there}
-use Rattle.btor_tree.proofs.Literals.{cond_some}
 use Rattle.name_maps.proofs.FreshNames.{all_back, all_front, all_joined}
 
 -- ---- parts of formulas
@@ -79,20 +77,6 @@ queries_long n [] = refl
 queries_long n (l ∷ ls) = ap suc (queries_long (n + 1) ls)
 
 -- ---- values of states
-
--- the line that gives a state its value
-pub value_found : (kind : LineOp → Bool) (lines : List Line) (s : ℕ) (v : Arg) → state_value kind lines s ≡ Some v → (i : ℕ) × (l : Line) × (slice_get lines i ≡ Some l) × (kind l.op ≡ true) × (value_for l.args s ≡ Some v)
-value_found kind [] s v h = absurd (none-some v h)
-value_found kind (l ∷ ls) s v h =
-    elim (option_cases (value_in kind l s)) [
-      | inl n ↦
-          let rest = value_found kind ls s v (sym (ap (λ o. option_or o (state_value kind ls s)) n) ∙ h) in
-          (suc rest.0, rest.1, rest.2, rest.3, rest.4)
-      | inr f ↦
-          let is : value_in kind l s ≡ Some v = f.1 ∙ sym (ap (λ o. option_or o (state_value kind ls s)) f.1) ∙ h in
-          let c = cond_some (kind l.op) (value_for l.args s) v is in
-          (0, l, refl, c.0, c.1)
-    ]
 
 -- the first line that gives a state a value is what the state has
 pub value_given : (kind : LineOp → Bool) (lines : List Line) (i : ℕ) (l : Line) (x v : Arg) → slice_get lines i ≡ Some l → kind l.op ≡ true → l.args ≡ x ∷ v ∷ [] → state_value kind (take i lines) x.line ≡ None

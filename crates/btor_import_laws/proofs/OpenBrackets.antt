@@ -1,5 +1,5 @@
 -- How many brackets of the printed script stand open at most.
-use Rattle.std.proofs.Common.{ℕ, zero, suc, ◌+◌, ◌-◌, ◌≤◌, max, Bool, true, false, ◌==◌, if◌then◌else◌, List, [], ◌∷◌, ◌++◌, arith}
+use Rattle.std.proofs.Common.{ℕ, zero, suc, ◌+◌, ◌≤◌, Bool, true, false, ◌==◌, if◌then◌else◌, List, [], ◌∷◌, arith}
 use Rattle.std.specs.Prelude.{codes}
 use Rattle.std.specs.List.{AllByRecursion}
 use Rattle.word_core.specs.declared.kinds.Unary.{Unary}
@@ -14,58 +14,20 @@ use Rattle.btor_tree.specs.Fits.{is_bad, is_constraint, is_init, is_next, sort_a
 use Rattle.moxi_terms.specs.declared.data.Sort.TheVariants as sort
 use Rattle.moxi_terms.specs.declared.data.Datum.TheVariants as datum
 use Rattle.moxi_terms.specs.declared.data.TermOp.TheVariants as op
-use Rattle.moxi_terms.specs.Names.{function_names}
-use Rattle.moxi_terms.specs.Tree.{Tree, constant, variable, bound, apply, binding, call, Trees, no_trees, tree, trees_of}
+use Rattle.moxi_terms.specs.Tree.{Tree, variable, apply, trees_of}
 use Rattle.moxi_terms.specs.View.{ScopeState}
 use Rattle.moxi_term_print.specs.Shown.{no_showns, joined, shown_depth, shown_depths}
-use Rattle.moxi_term_print.specs.Terms.{name_at, shown_term, shown_terms, shown_bindings, variable_names}
+use Rattle.moxi_term_print.specs.Terms.{variable_names}
 use Rattle.moxi_scripts.specs.Script.{variables_in}
 use Rattle.moxi_script_print.specs.Printing.{attribute, shown_lists, shown_formulas, shown_labels, shown_queries, shown_conditions, shown_system, shown_check, system_names}
 use Rattle.btor_import.specs.Operators.{argument, binary_term, bits_from, is_one, line_term, not_term, operand_term, parity_term, unary_term}
-use Rattle.btor_import.specs.Script.{all_term, check_of, equation_term, formula_of, import_of, init_part, inv_part, is_local, lines_in, number_of, parts_from, reachables_from, system_of, trans_part, value_part}
+use Rattle.btor_import.specs.Script.{check_of, equation_term, formula_of, import_of, init_part, inv_part, is_local, lines_in, number_of, parts_from, reachables_from, system_of, trans_part, value_part}
 use Rattle.btor_import.proofs.Standing.{parts_all}
 use Rattle.btor_import_laws.specs.Laws.{BracketsAreFew}
-use Rattle.moxi_script_print.proofs.Depths.{call_depth, joined_depths, lists_depth, operator_depth, queries_depth, value_depth}
+use Rattle.moxi_script_print.proofs.Depths.{joined_depths, lists_depth, queries_depth}
 use Rattle.moxi_scripts.specs.Valid.{check_variables, formula_names}
-
--- ---- how many brackets of a term stand open at most
-
-abbrev mutual
-  open_brackets : Tree → ℕ
-  open_brackets (constant d) = 0
-  open_brackets (variable v primed) = 0
-  open_brackets (bound i) = 0
-  open_brackets (apply o ts) = 1 + max 1 (all_brackets ts)
-  open_brackets (binding names ts t) = 1 + max (2 + all_brackets ts) (open_brackets t)
-  open_brackets (call n ts) = 1 + all_brackets ts
-
-  all_brackets : Trees → ℕ
-  all_brackets no_trees = 0
-  all_brackets (tree t ts) = max (open_brackets t) (all_brackets ts)
-
-mutual
-  term_depth : (s : ScopeState) (vars bounds : List (List ℕ)) (t : Tree) → shown_depth (shown_term s vars bounds t) ≤ open_brackets t
-  term_depth s vars bounds (constant d) = let a = value_depth s d in omega (arith, a)
-  term_depth s vars bounds (variable v primed) = omega arith
-  term_depth s vars bounds (bound i) = omega arith
-  term_depth s vars bounds (apply o ts) = let a = operator_depth o in let r = terms_depth s vars bounds ts in omega (arith, a, r)
-  term_depth s vars bounds (binding names ts t) =
-      let a = bindings_depth s vars bounds names ts in
-      let r = term_depth s vars (bounds ++ names) t in
-      omega (arith, a, r)
-  term_depth s vars bounds (call n ts) =
-      let a = call_depth (name_at (function_names s) n) (shown_terms s vars bounds ts) in
-      let r = terms_depth s vars bounds ts in
-      omega (arith, a, r)
-
-  terms_depth : (s : ScopeState) (vars bounds : List (List ℕ)) (ts : Trees) → shown_depths (shown_terms s vars bounds ts) ≤ all_brackets ts
-  terms_depth s vars bounds no_trees = omega arith
-  terms_depth s vars bounds (tree t ts) = let a = term_depth s vars bounds t in let r = terms_depth s vars bounds ts in omega (arith, a, r)
-
-  bindings_depth : (s : ScopeState) (vars bounds names : List (List ℕ)) (ts : Trees) → shown_depths (shown_bindings s vars bounds names ts) ≤ 1 + all_brackets ts
-  bindings_depth s vars bounds names no_trees = omega arith
-  bindings_depth s vars bounds [] (tree t ts) = omega arith
-  bindings_depth s vars bounds (name ∷ names) (tree t ts) = let a = term_depth s vars bounds t in let r = bindings_depth s vars bounds names ts in omega (arith, a, r)
+use Rattle.moxi_terms.specs.Applications.{all_term}
+use Rattle.moxi_script_print.proofs.Brackets.{open_brackets, all_brackets, term_depth}
 
 -- ---- the terms of lines
 

@@ -25,9 +25,9 @@ use Rattle.btor_import.specs.Script.{equation_term, formula_of, init_part, inv_p
 use Rattle.btor_import.proofs.LineVariables.{local_word}
 use Rattle.btor_import.proofs.Standing.{parts_all}
 use Rattle.btor_import_laws.proofs.Formulas.{all_hold, each_holds, equal_holds, holds_equal}
-use Rattle.btor_import_laws.proofs.Lists.{operands_all, operands_each, parts_each, value_found, value_given}
+use Rattle.btor_import_laws.proofs.Lists.{operands_all, operands_each, parts_each, value_given}
 use Rattle.btor_import_laws.proofs.Words.{binary_is, choice_is, on_one, unary_is}
-use Rattle.btor_tree.proofs.Paths.{value_for_facts}
+use Rattle.btor_tree.proofs.Paths.{value_for_facts, value_found}
 
 -- the names have the words of a row
 abbrev pub Agree : List Line → List BitVector → Values → Type 0

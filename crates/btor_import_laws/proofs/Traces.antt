@@ -18,11 +18,11 @@ use Rattle.moxi_terms.specs.Names.{no_scope}
 use Rattle.moxi_terms.specs.Tree.{Tree, sorts_of}
 use Rattle.moxi_terms.specs.Value.{Calls}
 use Rattle.moxi_scripts.specs.declared.script.Query.{Query}
-use Rattle.moxi_scripts.specs.Script.{PlainSystem, calls_in, formula_at, system_at, variables_in}
+use Rattle.moxi_scripts.specs.Script.{PlainSystem, calls_in, formula_at, system_at, variables_in, query_of}
 use Rattle.moxi_scripts.specs.Behaviour.{Behaves, behaves, no_subsystems, FormulasHold, Holds, Suits, Trace}
 use Rattle.moxi_scripts.specs.Meeting.{MeetsQuery}
 use Rattle.btor_import.specs.Operators.{is_one, operand_term}
-use Rattle.btor_import.specs.Script.{check_of, import_of, is_local, lines_in, number_of, query_of, reachables_from, system_of}
+use Rattle.btor_import.specs.Script.{check_of, import_of, is_local, lines_in, number_of, reachables_from, system_of}
 use Rattle.btor_import.proofs.LineVariables.{picked}
 use Rattle.moxi_layout.specs.LayoutLaws.{AtLast, AreBadFrames}
 use Rattle.btor_import_laws.specs.Runs.{HasWordsOf, row_at}

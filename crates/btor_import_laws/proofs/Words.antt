@@ -18,7 +18,8 @@ use Rattle.moxi_terms.specs.declared.data.TermOp.TheVariants as op
 use Rattle.moxi_terms.specs.Operators.{folded, op_value, same, truth_of, word_of}
 use Rattle.moxi_terms.specs.Tree.{Tree, apply, trees_of}
 use Rattle.moxi_terms.specs.Value.{Calls, Values, term_value, term_values}
-use Rattle.btor_import.specs.Operators.{binary_term, bits_from, choice_term, equal_term, is_one, one, parity_term, two, unary_term, word_term}
+use Rattle.btor_import.specs.Operators.{binary_term, bits_from, is_one, parity_term, unary_term, word_term}
+use Rattle.moxi_terms.specs.Applications.{one, two, equal_term, choice_term}
 
 abbrev word : ℕ → ℕ → BitVector
 word w n = record { width = w; bits = n }

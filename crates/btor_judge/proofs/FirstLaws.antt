@@ -5,11 +5,12 @@ use Rattle.std.proofs.lemmas.Bool.Decides.{nat_tests}
 use Rattle.text_core.specs.Bytes.{is_digit}
 use Rattle.btor_tree.specs.Parts.{Parts, numeral, cap}
 use Rattle.btor_tree.specs.Bytes.{number_after}
-use Rattle.btor_tree.proofs.Numerals.{all_digits, value_after, numeral_from, numeral_is}
+use Rattle.btor_tree.proofs.Numerals.{numeral_from, numeral_is}
 use Rattle.btor_witness.specs.Shapes.{on_number, single_shape, is_passed}
 use Rattle.btor_judge.specs.declared.first.First.{First}
 use Rattle.btor_judge.specs.declared.first.First.TheVariants.{Empty, S, Sa, Sat, Dot, Comment, Mark, Marked, Number, Other}
 use Rattle.btor_judge.specs.Firsts.{with_digit, first_byte, first_next, first_after, first_of, first_shape, first_number, is_comment}
+use Rattle.text_core.proofs.Numerals.{all_digits, value_after}
 
 -- one byte more
 after_push : (bs : List ℕ) (first : First) (b : ℕ) → first_after first (bs ++ b ∷ []) ≡ first_next (first_after first bs) b

@@ -12,6 +12,7 @@ use Rattle.btor_tree.specs.Fits.{AreEarlier, OpFits, Fits, is_init, is_next, sta
 use Rattle.btor_tree.proofs.Paths.{state_value_append}
 use Rattle.btor_text.specs.declared.progress.Mark.{Mark}
 use Rattle.btor_text.specs.Marks.{IsMarked, mark_at, no_mark, noted, with_init, with_next}
+use Rattle.text_core.proofs.Truths.{or_false, or_none}
 
 abbrev had : Option Arg → Bool
 had o = not (is_none o)
@@ -20,17 +21,9 @@ had_or : (a b : Option Arg) → had (option_or a b) ≡ (had a || had b)
 had_or None b = refl
 had_or (Some x) b = refl
 
-or_false : (b : Bool) → (b || false) ≡ b
-or_false true = refl
-or_false false = refl
-
 or_true : (b : Bool) → (b || true) ≡ true
 or_true true = refl
 or_true false = refl
-
-or_none : (o : Option Arg) → option_or o None ≡ o
-or_none None = refl
-or_none (Some x) = refl
 
 value_push : (kind : LineOp → Bool) (lines : List Line) (line : Line) (s : ℕ) → state_value kind (lines ++ line ∷ []) s ≡ option_or (state_value kind lines s) (value_in kind line s)
 value_push kind lines line s = state_value_append kind lines (line ∷ []) s ∙ ap (option_or (state_value kind lines s)) (or_none (value_in kind line s))

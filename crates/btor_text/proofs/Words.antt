@@ -8,14 +8,12 @@ use Rattle.std.proofs.lemmas.Slice.Eq.{bytes_eq-Decides}
 use Rattle.btor_tree.specs.Parts.{Parts}
 use Rattle.btor_tree.specs.Shapes.{Word, is_unsupported, unsupported_content}
 use Rattle.btor_tree.specs.Reading.{content_at, content_of, word_of}
-use Rattle.btor_text.specs.Seen.{first_of, look_up, rows}
+use Rattle.btor_text.specs.Seen.{look_up, rows}
+use Rattle.text_core.proofs.Truths.{passed_over}
+use Rattle.text_core.specs.Bytes.{first_of}
 
 abbrev Row : Type 0
 Row = List ℕ × Word
-
-passed_over : {A : Type 0} (b : Bool) (x y : A) → (b ≡ true → ⊥) → cond b x y ≡ y
-passed_over true x y h = absurd (h refl)
-passed_over false x y h = refl
 
 step : (same : Bool) (text : List ℕ) (w : Row) (found : Option Word) (kept : List Row) → (bytes_eq text w.0 ≡ true → same ≡ true) → found ≡ look_up text kept
     → cond (bytes_eq text w.0) (Some w.1) found ≡ look_up text (cond same (w ∷ kept) kept)

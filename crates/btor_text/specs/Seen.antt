@@ -77,11 +77,6 @@ look_up text (row ∷ rows) = if bytes_eq text row.0 then Some row.1 else look_u
 abbrev pub rows : List (List ℕ × shapes.Word)
 rows = map (λ w. (shapes.word_text w, w)) words
 
--- the first byte, or 0 where there is none
-abbrev pub first_of : List ℕ → ℕ
-first_of [] = 0
-first_of (b ∷ bs) = b
-
 abbrev pub texts : List (Bor (List ℕ)) → Parts
 texts = map (λ p. p.now)
 

@@ -7,7 +7,8 @@ ghost use Rattle.btor_tree.specs.Bytes.{are_digits};
 ghost use Rattle.btor_tree.specs.Shapes.{is_literal, is_negative, is_unsupported, magnitude_of};
 ghost use Rattle.btor_tree.specs.Reading.{word_of};
 ghost use Rattle.btor_tree.specs.Resolving.{literal_word, minus_word};
-ghost use Rattle.btor_text.specs.Seen.{entry, first_of, look_up, rows, seen_base, seen_word, texts};
+ghost use Rattle.btor_text.specs.Seen.{entry, look_up, rows, seen_base, seen_word, texts};
+ghost use Rattle.text_core.specs.Bytes.{first_of};
 
 use text_core::is_same;
 use word_core::{Binary, Unary, Word, read_digits, unary};

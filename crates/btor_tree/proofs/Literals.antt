@@ -1,9 +1,8 @@
 -- Constants: what digits spell is a word of its width, and the digits of a word spell it.
-use Rattle.std.proofs.Common.{◌≡◌, ℕ, zero, suc, ◌+◌, ◌-◌, ◌*◌, ◌/◌, ◌%◌, ◌<◌, ◌≤◌, ◌^◌, ◌&&◌, ◌⊎◌, Bool, true, false, cond, eqb, ltb, leb, List, [], ◌∷◌, ◌++◌, length, Option, Some, None, refl, sym, ap, ◌∙◌, subst, arith, inl, inr}
+use Rattle.std.proofs.Common.{◌≡◌, ℕ, zero, suc, ◌+◌, ◌-◌, ◌*◌, ◌/◌, ◌%◌, ◌≤◌, ◌^◌, ◌&&◌, Bool, true, false, cond, eqb, ltb, leb, List, [], ◌∷◌, ◌++◌, length, Option, Some, None, refl, ap, ◌∙◌, subst, arith}
 use Rattle.std.specs.Prelude.{is_some, option_and_then}
 use Rattle.std.proofs.lemmas.Bool.{cond-true, lt-ltb, le-leb, eq-eqb, ltb-true, leb-true, and_parts, and_from}
-use Rattle.std.proofs.lemmas.Option.{same_Some, none-some}
-use Rattle.std.proofs.lemmas.List.{length_push}
+use Rattle.std.proofs.lemmas.Option.{same_Some}
 use Rattle.text_core.specs.Binary.{binary_digits}
 use Rattle.word_core.specs.Words.{BitVector, IsWord}
 use Rattle.word_core.specs.declared.word.TheConstants.{WIDEST}
@@ -16,14 +15,8 @@ use Rattle.btor_tree.specs.Parts.{is_symbol_byte, all_symbol, is_symbol}
 use Rattle.btor_tree.specs.Shapes.{Base, in_binary, in_decimal, in_hex, is_negative, magnitude_of}
 use Rattle.btor_tree.specs.Resolving.{minus_word, literal_word}
 use Rattle.btor_tree.proofs.Widths.{IsOfWidth}
-
-pub cond_some : {X : Type 0} (b : Bool) (o : Option X) (v : X) → cond b o None ≡ Some v → (b ≡ true) × (o ≡ Some v)
-cond_some true o v h = (refl, h)
-cond_some false o v h = absurd (none-some v h)
-
-then_some : {X Y : Type 0} (f : X → Option Y) (o : Option X) (v : Y) → option_and_then f o ≡ Some v → (x : X) × (f x ≡ Some v) × (o ≡ Some x)
-then_some f None v h = absurd (none-some v h)
-then_some f (Some x) v h = (x, h, refl)
+use Rattle.text_core.proofs.Truths.{cond_some, then_some}
+use Rattle.word_core.proofs.BinaryDigits.{digit_fact, digits_long, number_back}
 
 fitted_is : (w n : ℕ) (c : BitVector) → 1 ≤ w → w ≤ WIDEST → fitted w n ≡ Some c → IsOfWidth c w
 fitted_is w n c low high e =
@@ -54,25 +47,6 @@ pub literal_is : (k : Base) (w : ℕ) (text : List ℕ) (c : BitVector) → lite
 literal_is in_binary w text c e = read_is w 2 text c (cond_some (eqb (length text) w) (read_word w 2 text) c e).1
 literal_is in_decimal w text c e = decimal_is (is_negative text) w (magnitude_of text) text c e
 literal_is in_hex w text c e = read_is w 16 text c e
-
-bit_cases : (n : ℕ) → (n % 2 ≡ 0) ⊎ (n % 2 ≡ 1)
-bit_cases n = below_two (n % 2) (omega arith)
-  where
-    below_two : (d : ℕ) → d < 2 → (d ≡ 0) ⊎ (d ≡ 1)
-    below_two zero h = inl refl
-    below_two (suc zero) h = inr refl
-    below_two (suc (suc d)) h = absurd (omega (arith, h))
-
-digit_fact : (P : ℕ → Type 0) (n : ℕ) → P 48 → P 49 → P (48 + n % 2)
-digit_fact P n a b = elim (bit_cases n) [ inl z ↦ subst (λ d. P (48 + d)) (sym z) a | inr o ↦ subst (λ d. P (48 + d)) (sym o) b ]
-
-digit_is : (n : ℕ) → digit_number (48 + n % 2) ≡ n % 2
-digit_is n = elim (bit_cases n) [ inl z ↦ subst (λ d. digit_number (48 + d) ≡ d) (sym z) refl | inr o ↦ subst (λ d. digit_number (48 + d) ≡ d) (sym o) refl ]
-
-pub digits_long : (w n : ℕ) → length (binary_digits w n) ≡ w
-unfolding binary_digits
-digits_long zero n = refl
-digits_long (suc w) n = let e = length_push (binary_digits w (n / 2)) (48 + n % 2) in omega (arith, e, digits_long w (n / 2))
 
 base_push : (xs : List ℕ) (b : ℕ) → all_of_base 2 xs ≡ true → ltb (digit_number b) 2 ≡ true → all_of_base 2 (xs ++ b ∷ []) ≡ true
 base_push [] b e f = and_from (ltb (digit_number b) 2) true f refl
@@ -122,40 +96,6 @@ digits_tested base (b ∷ bs) = number_there base (b ∷ bs) 0
 
 pub digits_are : (w n : ℕ) → 1 ≤ w → is_some (digits_value 2 (binary_digits w n)) ≡ true
 digits_are w n h = digits_tested 2 (binary_digits w n) ∙ some_digits (binary_digits w n) (omega (arith, h, digits_long w n)) (digits_of_base w n)
-
--- one more digit behind those before
-one_behind : (d : ℕ) → ℕ → Option ℕ
-one_behind d m = cond (ltb (digit_number d) 2) (Some (m * 2 + digit_number d)) None
-
-unfold_behind : (d m : ℕ) → cond (ltb (digit_number d) 2) (number_after 2 (m * 2 + digit_number d) []) None ≡ one_behind d m
-unfolding one_behind
-unfold_behind d m = refl
-
-number_push : (xs : List ℕ) (d m : ℕ) → number_after 2 m (xs ++ d ∷ []) ≡ option_and_then (one_behind d) (number_after 2 m xs)
-number_push [] d m = unfold_behind d m
-number_push (x ∷ xs) d m =
-    choice _ _ (ltb (digit_number x) 2) (number_push xs d (m * 2 + digit_number x))
-  where
-    choice : (o p : Option ℕ) (b : Bool) → o ≡ option_and_then (one_behind d) p → cond b o None ≡ option_and_then (one_behind d) (cond b p None)
-    choice o p true e = e
-    choice o p false e = refl
-
-behind_is : (n m : ℕ) → one_behind (48 + n % 2) m ≡ Some (m * 2 + n % 2)
-unfolding one_behind
-behind_is n m =
-    cond-true (ltb (digit_number (48 + n % 2)) 2) _ _ (digit_fact (λ b. ltb (digit_number b) 2 ≡ true) n refl refl) ∙ ap (λ d. Some (m * 2 + d)) (digit_is n)
-
-half_small : (w n : ℕ) → n < 2 ^ suc w → n / 2 < 2 ^ w
-half_small w n h = omega (arith, h)
-
-number_back : (w n : ℕ) → n < 2 ^ w → number_after 2 0 (binary_digits w n) ≡ Some n
-unfolding binary_digits
-number_back zero n h = let z : 0 ≡ n = omega (arith, h) in ap Some z
-number_back (suc w) n h =
-    let whole : n / 2 * 2 + n % 2 ≡ n = omega arith in
-    number_push (binary_digits w (n / 2)) (48 + n % 2) 0
-    ∙ ap (option_and_then (one_behind (48 + n % 2))) (number_back w (n / 2) (half_small w n h))
-    ∙ behind_is n (n / 2) ∙ ap Some whole
 
 value_of_some : (xs : List ℕ) → 1 ≤ length xs → digits_value 2 xs ≡ number_after 2 0 xs
 value_of_some [] h = absurd (omega (arith, h))

@@ -10,16 +10,7 @@ use Rattle.word_core.specs.Digits as word
 use Rattle.word_core.specs.Digits.{digit_number}
 use Rattle.btor_tree.specs.Parts.{cap, numeral}
 use Rattle.btor_tree.specs.Bytes.{number_after}
-
--- decimal digits alone
-abbrev pub all_digits : List ℕ → Bool
-all_digits [] = true
-all_digits (b ∷ bs) = is_digit b && all_digits bs
-
--- the number that digits spell behind those of n
-abbrev pub value_after : ℕ → List ℕ → ℕ
-value_after n [] = n
-value_after n (b ∷ bs) = value_after (10 * n + (b - 48)) bs
+use Rattle.text_core.proofs.Numerals.{all_digits, value_after}
 
 -- the digits of base 10 are 0 to 9
 pub digit_is : (b : ℕ) → is_digit b ≡ true → digit_number b ≡ b - 48

@@ -9,7 +9,8 @@ use Rattle.btor_tree.specs.Fits.{IsSymbolByte, IsSymbol}
 use Rattle.text_core.specs.Bytes.{is_digit}
 use Rattle.btor_tree.specs.Parts.{Parts, is_symbol_byte, all_symbol, is_symbol, onto_line, raw_lines, clean, is_blank, ends_part, onto_part, parts, line_parts, cap}
 use Rattle.btor_tree.specs.Printing.{spaced}
-use Rattle.btor_tree.proofs.Numerals.{all_digits, decimal_digits}
+use Rattle.btor_tree.proofs.Numerals.{decimal_digits}
+use Rattle.text_core.proofs.Numerals.{all_digits}
 
 all_test : (bs : List ℕ) → AllByRecursion IsSymbolByte bs → all_symbol bs ≡ true
 all_test [] h = refl

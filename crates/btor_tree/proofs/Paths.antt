@@ -21,7 +21,7 @@ use Rattle.btor_tree.proofs.Widths.{option_cases, line_at, width_front, sort_fro
 use Rattle.std.specs.List.{AllByRecursion}
 use Rattle.std.proofs.lemmas.Bool.{eqb-true}
 use Rattle.btor_tree.proofs.Rows.{Given, GivesWords, row_upto, frame_upto, upto_same, word_upto, slice_get_take}
-use Rattle.btor_tree.proofs.Literals.{cond_some}
+use Rattle.text_core.proofs.Truths.{cond_some}
 
 pub value_for_facts : (args : List Arg) (s : ℕ) (v : Arg) → value_for args s ≡ Some v → (x : Arg) × (args ≡ x ∷ v ∷ []) × (x.line ≡ s)
 value_for_facts [] s v h = absurd (none-some v h)
@@ -32,7 +32,7 @@ value_for_facts (x ∷ u ∷ []) s v h =
 value_for_facts (x ∷ u ∷ y ∷ more) s v h = absurd (none-some v h)
 
 -- the line that gives a state its value
-value_found : (kind : LineOp → Bool) (lines : List Line) (s : ℕ) (v : Arg) → state_value kind lines s ≡ Some v → (i : ℕ) × (l : Line) × (slice_get lines i ≡ Some l) × (kind l.op ≡ true) × (value_for l.args s ≡ Some v)
+pub value_found : (kind : LineOp → Bool) (lines : List Line) (s : ℕ) (v : Arg) → state_value kind lines s ≡ Some v → (i : ℕ) × (l : Line) × (slice_get lines i ≡ Some l) × (kind l.op ≡ true) × (value_for l.args s ≡ Some v)
 value_found kind [] s v h = absurd (none-some v h)
 value_found kind (l ∷ ls) s v h =
     elim (option_cases (value_in kind l s)) [

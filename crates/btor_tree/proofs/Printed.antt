@@ -28,11 +28,12 @@ use Rattle.btor_tree.specs.Resolving.{place_of_id, sort_of_id, state_of_id, word
 use Rattle.btor_tree.specs.Texts.{Reads, ends, passed, line, SpellsLines}
 use Rattle.btor_tree.specs.Printing.{id_at, operand_text, op_text, sort_parts, number_parts, printed_rest, spaced, line_text, printed}
 use Rattle.btor_tree.proofs.AtPlaces.{width_of_sort, width_of_line}
-use Rattle.btor_tree.proofs.Numerals.{all_digits, numeral_again, decimal_digits}
+use Rattle.btor_tree.proofs.Numerals.{numeral_again, decimal_digits}
 use Rattle.btor_tree.proofs.PartLaws.{AllParts, parts_append, symbol_bytes, joined_parts, joined_end, decimal_part, line_at, symbol_test}
 use Rattle.btor_tree.proofs.Widths.{sort_small, width_small}
 use Rattle.btor_tree.proofs.Literals.{digits_part, digits_are, literal_again}
 use Rattle.btor_tree.proofs.IdLaws.{Knows, place_again, small_id, get_end, front_known}
+use Rattle.text_core.proofs.Numerals.{all_digits}
 
 -- the place of a printed id
 place_back : (before lines : List Line) → Knows before lines → (k : ℕ) (passes : ℕ → Bool) → k < length before → passes k ≡ true → place_of_id before (id_at lines k) passes ≡ Some k

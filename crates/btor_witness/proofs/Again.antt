@@ -29,10 +29,11 @@ use Rattle.btor_tree.specs.declared.lines.LineOp.{LineOp}
 use Rattle.btor_tree.specs.Fits.{IsWellFormed, is_bad, is_state, is_input}
 use Rattle.btor_tree.specs.Parts.{Parts, numeral, cap, raw_lines}
 use Rattle.btor_tree.proofs.Grows.{slice_get_inside, counts_small}
-use Rattle.btor_tree.proofs.Numerals.{all_digits, numeral_again, decimal_digits}
+use Rattle.btor_tree.proofs.Numerals.{numeral_again, decimal_digits}
 use Rattle.btor_witness.specs.laws.Binary.{binary_tested, binary_word}
 use Rattle.btor_witness.proofs.Tables.{length_widths}
 use Rattle.btor_witness.proofs.Plain.{all_solid, all_free, free_from, free_append, line_at, one_part, two_parts, binary_solid, digits_binary, digits_long, word_again, decimal_solid, digits_read}
+use Rattle.text_core.proofs.Numerals.{all_digits}
 
 -- a line of the text that does this
 reads_line : (sizes : Sizes) (r next : Reading) (l rest : List ℕ) (w : Witness) → all_free l ≡ true → IsNext sizes r (line_parts l) (moves next) → Reads sizes next (raw_lines rest) w → Reads sizes r (raw_lines (l ++ 10 ∷ rest)) w

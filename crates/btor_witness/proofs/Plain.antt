@@ -10,9 +10,10 @@ use Rattle.word_core.specs.Words.{BitVector, IsWord}
 use Rattle.word_core.specs.declared.word.TheConstants.{WIDEST}
 use Rattle.text_core.specs.Bytes.{is_digit}
 use Rattle.btor_tree.specs.Parts.{Parts, is_blank, ends_part, onto_part, parts, onto_line, raw_lines}
-use Rattle.btor_tree.proofs.Numerals.{all_digits, decimal_digits}
+use Rattle.btor_tree.proofs.Numerals.{decimal_digits}
 use Rattle.btor_witness.specs.Bytes.{is_binary, all_binary, bits_after, word_of, without_return, line_parts}
 use Rattle.btor_witness.specs.Shapes.{is_passed}
+use Rattle.text_core.proofs.Numerals.{all_digits}
 
 -- a byte that ends neither a line nor a part
 abbrev pub is_solid : ℕ → Bool

@@ -5,13 +5,14 @@ use Rattle.std.proofs.lemmas.Bool.{cond-true, cond-false, cases_Bool, and_parts,
 use Rattle.text_core.specs.Bytes.{is_digit}
 use Rattle.btor_tree.specs.Parts.{Parts, numeral, parts, cap}
 use Rattle.btor_tree.specs.Bytes.{number_after}
-use Rattle.btor_tree.proofs.Numerals.{all_digits, numeral_is, numeral_from}
+use Rattle.btor_tree.proofs.Numerals.{numeral_is, numeral_from}
 use Rattle.btor_witness.specs.declared.shape.Shape.{Shape}
 use Rattle.btor_witness.specs.declared.shape.Shape.TheVariants.{Sat, Property, Justice, States, Inputs, End, Assignment}
 use Rattle.btor_witness.specs.Bytes.{all_binary, word_of, IsNumberFront}
 use Rattle.btor_witness.specs.Shapes.{Spells, shape_of, assignment_shape, is_passed}
 use Rattle.btor_witness.specs.laws.Shapes.{shape_from}
 use Rattle.btor_witness.proofs.Plain.{digits_read, digits_solid, binary_solid, parts_at}
+use Rattle.text_core.proofs.Numerals.{all_digits}
 
 numeral_read : (index : List ℕ) (i : ℕ) (ps : Parts) → numeral index ≡ Some i → is_passed (index ∷ ps) ≡ false
 numeral_read [] i ps e = refl

@@ -4,7 +4,7 @@ use Rattle.word_core.specs.Words.{BitVector}
 use Rattle.word_core.specs.declared.word.TheConstants.{WIDEST}
 use Rattle.btor_tree.specs.Parts.{Parts, parts}
 use Rattle.btor_tree.specs.Bytes.{number_after}
-use Rattle.btor_tree.proofs.Numerals.{all_digits}
+use Rattle.text_core.proofs.Numerals.{all_digits}
 
 -- a binary digit
 abbrev pub is_binary : ℕ → Bool

@@ -5,7 +5,7 @@ use Rattle.std.specs.Str.{IsUtf8}
 use Rattle.std.specs.Option.{option_map_or}
 use Rattle.clap.specs.Walk as step
 use Rattle.clap.specs.Lexer.{long_of, short_of, usize_max}
-use Rattle.clap.specs.Walk.{Held, Row, Rule, Step, Text, Waiting, Walk, after_step, arg_by_index, finished, first_of, has_row, idle, is_pending, long_or_other, option, plain_word, positional_held, pushed, settled, settled_rows, short_or_plain, subcommand_met, subcommand_or_other, to_positional, used, value, walked, with_default, word_met}
+use Rattle.clap.specs.Walk.{Held, Row, Rule, Step, Text, Waiting, Walk, after_step, arg_by_index, finished, first_of, has_row, idle, is_pending, long_or_other, option, plain_word, positional_held, pushed, settled, settled_rows, short_or_plain, subcommand_met, subcommand_or_other, to_positional, value, walked, with_default, word_met}
 use Rattle.clap.specs.Kinds.{Kinds, or_else}
 use Rattle.clap.specs.Faults.{bundle_fault, check_fault, defaults_fault, flag_word_fault, other_fault, positional_fault, settle_fault, step_fault, turn_fault, use_fault, walk_fault, word_fault}
 use Rattle.clap.specs.declared.error.kind.ErrorKind.{ErrorKind}
@@ -16,6 +16,7 @@ use Rattle.command_core.proofs.Forms as forms
 use Rattle.command_core.proofs.Forms.{Form, IsOther, form_of, held}
 use Rattle.command_core.proofs.Rows.{Gives, gives_first, gives_second, gives_third, given_texts, has_row_is, positional_passes, used_positional}
 use Rattle.command_core.proofs.Texts.{put_positional, texts_behind}
+use Rattle.text_core.proofs.Truths.{or_false}
 
 -- ---- what a walk comes to
 
@@ -137,10 +138,6 @@ pub data Placing (rows : List Row) (pending : Option (Text × List Text)) (t : T
 no_several : (b : Bool) (k : Kinds) → k ≡ [] → cond (b && false) [] k ≡ []
 no_several true k e = e
 no_several false k e = e
-
-or_false : (b : Bool) → (b || false) ≡ b
-or_false true = refl
-or_false false = refl
 
 moved : (id : Text) (place : ℕ) (word : Text) (rows : List Row) (pending : Option (Text × List Text))
     → positional_held rules (positional_rule id place) word (held rows pending) ≡ held (settled_of rows pending) (Some (id, word ∷ []))

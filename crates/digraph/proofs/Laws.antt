@@ -12,7 +12,8 @@ use Rattle.digraph.specs.Graph.{NodeLists, next_of, is_graph, is_in, are_distinc
 use Rattle.digraph.specs.Searching.{State, IsSearch, is_done, is_open, is_new, is_done_mark, is_open_mark, is_new_mark, is_path, fronts_done, closed, turned, taken, mark_weight, weight, SomeReturns, IsEnd, IsStep}
 use Rattle.digraph.specs.declared.search.End.{End}
 use Rattle.digraph.specs.declared.search.Step.TheVariants.{Went}
-use Rattle.digraph.proofs.Lists.{and_left, and_right, and_both, or_left, or_right, same, same_back, all_more, all_end, all_front, all_last, all_at, in_end, in_front, in_cases, at_in, all_get, bool_cases, distinct_end, distinct_front, distinct_last}
+use Rattle.digraph.proofs.Lists.{and_left, and_right, and_both, or_left, or_right, same, same_back, all_more, all_end, all_front, all_last, all_at, in_end, in_front, in_cases, at_in, all_get, distinct_end, distinct_front, distinct_last}
+use Rattle.text_core.proofs.Truths.{bool_cases}
 
 -- ---- one mark more
 

@@ -4,6 +4,7 @@ use Rattle.std.specs.Prelude.{slice_index_or}
 use Rattle.std.specs.List.{list_all}
 use Rattle.std.proofs.lemmas.Bool.{or_cases}
 use Rattle.digraph.specs.Graph.{is_in, are_distinct}
+use Rattle.text_core.proofs.Truths.{bool_cases, not_true}
 
 pub and_left : (a b : Bool) → (a && b) ≡ true → a ≡ true
 and_left true b h = refl
@@ -91,17 +92,9 @@ all_get p [] i d h a = absurd (omega (arith, h))
 all_get p (x ∷ xs) zero d h a = and_left (p x) (list_all p xs) a
 all_get p (x ∷ xs) (suc i) d h a = all_get p xs i d (omega (arith, h)) (and_right (p x) (list_all p xs) a)
 
-pub bool_cases : (b : Bool) → (b ≡ true) ⊎ (b ≡ false)
-bool_cases true = inl refl
-bool_cases false = inr refl
-
 pub last_at : (xs : List ℕ) (x : ℕ) → slice_index_or (xs ++ x ∷ []) (length xs) 0 ≡ x
 last_at [] x = refl
 last_at (y ∷ ys) x = last_at ys x
-
-pub not_true : (b : Bool) → not b ≡ true → b ≡ false
-not_true true h = cc
-not_true false h = refl
 
 or_rest : (a b : Bool) → (a || b) ≡ false → b ≡ false
 or_rest true b h = cc
@@ -140,3 +133,7 @@ distinct_last (x ∷ xs) y h i =
       | inl e ↦ not_both (is_in (xs ++ y ∷ []) x) (subst (λ (z : ℕ). is_in (xs ++ y ∷ []) z ≡ true) (sym (same x y e)) (in_end xs y)) (not_true _ (and_left (not (is_in (xs ++ y ∷ []) x)) (are_distinct (xs ++ y ∷ [])) h))
       | inr m ↦ distinct_last xs y (and_right (not (is_in (xs ++ y ∷ []) x)) (are_distinct (xs ++ y ∷ [])) h) m
     ]
+
+pub only_node : (k : ℕ) → k < 1 → is_in (0 ∷ []) k ≡ true
+only_node zero h = refl
+only_node (suc k) h = absurd (omega (arith, h))

@@ -6,10 +6,11 @@ use Rattle.std.proofs.lemmas.Bool.{or_cases}
 use Rattle.std.proofs.lemmas.Bool.Decides.{nat_tests}
 use Rattle.std.proofs.lemmas.List.{take_more}
 use Rattle.digraph.specs.Graph.{NodeLists, next_of, is_in, leads}
-use Rattle.digraph.proofs.Lists.{all_get, and_both, and_left, and_right, bool_cases, in_cases, same}
+use Rattle.digraph.proofs.Lists.{all_get, and_both, and_left, and_right, in_cases, same}
 use Rattle.digraph.proofs.Laws.{ltb_lt, read_is, row_is}
 use Rattle.digraph.proofs.Visits.{first_edge, no_edges}
 use Rattle.digraph.specs.Ranks.{Falls, rank_of}
+use Rattle.text_core.proofs.Truths.{bool_cases}
 
 pub node_there : (n : ℕ) (xs : List ℕ) (i d : ℕ) → list_all (λ k. nat_lt k n) xs ≡ true → i < length xs → slice_index_or xs i d < n
 node_there n xs i d h l = ltb_lt (slice_index_or xs i d) n (all_get (λ k. nat_lt k n) xs i d l h)

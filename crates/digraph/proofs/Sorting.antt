@@ -8,8 +8,9 @@ use Rattle.digraph.specs.Graph.{NodeLists, next_of, is_in, leads, falls_from, Is
 use Rattle.digraph.specs.Searching.{State, IsSearch, is_open, is_new, is_done_mark, is_open_mark, is_new_mark}
 use Rattle.std.proofs.Math.ListN.{get_or-eq_default}
 use Rattle.digraph.proofs.Laws.{ltb_lt}
-use Rattle.digraph.proofs.Lists.{and_left, and_right, all_more, in_front, in_cases, bool_cases, not_both}
+use Rattle.digraph.proofs.Lists.{and_left, and_right, all_more, in_front, in_cases, not_both}
 use Rattle.digraph.proofs.Visits.{closed_never, first_edge, no_edges}
+use Rattle.text_core.proofs.Truths.{bool_cases}
 
 -- neither new nor on the path
 known_done : (m : Mark) → is_new_mark m ≡ false → is_open_mark m ≡ false → is_done_mark m ≡ true

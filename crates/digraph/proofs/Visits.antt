@@ -9,8 +9,9 @@ use Rattle.std.proofs.lemmas.List.Sums.{sum_by-set, sum_by-cons}
 use Rattle.std.proofs.lemmas.List.Folds.{list_all_more}
 use Rattle.digraph.specs.Graph.{NodeLists, next_of, is_graph, is_in, leads}
 use Rattle.digraph.specs.Visiting.{Visited, one, IsVisit, Extends, IsSpread, added}
-use Rattle.digraph.proofs.Lists.{and_left, and_right, and_both, or_left, or_right, same, same_back, all_more, all_end, all_at, in_end, in_front, at_in, not_both, bool_cases, last_at}
+use Rattle.digraph.proofs.Lists.{and_left, and_right, and_both, or_left, or_right, same, same_back, all_more, all_end, all_at, in_end, in_front, at_in, not_both, last_at}
 use Rattle.digraph.proofs.Laws.{any_in, one_edge, edge_more, ltb_lt, lt_ltb, row_is, read_is, target_in, target_within}
+use Rattle.text_core.proofs.Truths.{bool_cases}
 
 -- ---- leading
 

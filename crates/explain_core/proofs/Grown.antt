@@ -1,12 +1,7 @@
 -- Bytes that are written one after another.
-use Rattle.std.proofs.Common.{◌≡◌, ℕ, List, [], ◌++◌, Option, Some, None, refl, ap, ◌∙◌}
-use Rattle.std.proofs.lemmas.List.{append-nil}
+use Rattle.std.proofs.Common.{◌≡◌, ℕ, List, ◌++◌, Option, ap, ◌∙◌}
 use Rattle.text_core.specs.Outside.{grown}
 use Rattle.command_core.proofs.SinkLemmas.{grown_twice}
-
-pub grown_nothing : (before : Option (List ℕ)) → grown before [] ≡ before
-grown_nothing None = refl
-grown_nothing (Some taken) = ap Some (append-nil taken)
 
 -- two pieces
 pub then_grown : (before mid now : Option (List ℕ)) (xs ys : List ℕ) → mid ≡ grown before xs → now ≡ grown mid ys → now ≡ grown before (xs ++ ys)

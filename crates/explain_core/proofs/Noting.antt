@@ -8,8 +8,9 @@ use Rattle.text_core.specs.Outside.{grown, HasNewFault}
 use Rattle.command_core.specs.Sinks.{IsPart, Puts}
 use Rattle.explain_core.specs.Notes.{note_of}
 use Rattle.explain_core.specs.Explaining.{File, end_before, explained_lines, is_explained, line_at_text}
-use Rattle.explain_core.proofs.Grown.{grown_nothing, then_grown}
+use Rattle.explain_core.proofs.Grown.{then_grown}
 use Rattle.explain_core.proofs.Putting.{part_front, part_then, put_failed}
+use Rattle.text_core.proofs.OutsideLemmas.{grown_nothing}
 
 -- a front of a whole text was written, and this is what is left
 pub record Wrote (before now : Option (List ℕ)) (rest whole : List ℕ) : Type 0 where

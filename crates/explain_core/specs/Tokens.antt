@@ -1,13 +1,10 @@
 -- How long tokens are.
-use Rattle.std.specs.Prelude.{◌==◌, ◌&&◌, ◌||◌, ℕ, Bool, not, nat_le, nat_eq, List, [], ◌∷◌, length, map, min, max, suc, if◌then◌else◌}
+use Rattle.std.specs.Prelude.{◌==◌, ◌||◌, ℕ, Bool, not, nat_le, nat_eq, List, [], ◌∷◌, length, map, min, max, suc, if◌then◌else◌}
 use Rattle.std.specs.List.{starts_with}
-use Rattle.text_core.specs.Bytes.{is_digit}
+use Rattle.text_core.specs.Bytes.{is_digit, is_letter}
 use Rattle.text_core.specs.declared.place.Kind.{Kind}
 use Rattle.text_core.specs.declared.place.Kind.TheVariants.{S, M, B, X, Y}
 use Rattle.explain_core.specs.declared.tokens.TheConstants.{SIGNS}
-
-abbrev pub is_letter : ℕ → Bool
-is_letter b = (nat_le 65 b && nat_le b 90) || (nat_le 97 b && nat_le b 122)
 
 -- a byte that begins a name or a number: a letter, a digit or `_`
 abbrev pub is_word_byte : ℕ → Bool

@@ -1,6 +1,7 @@
 // The length of the token at the front of some bytes. A byte that begins no token counts alone.
 ghost use Rattle.std.specs.Prelude.{◌≡◌, ◌<◌, ◌≤◌, length, map};
-ghost use Rattle.explain_core.specs.Tokens.{ends_symbol, goes_on, is_letter, is_word_byte, moxi_token_length, sign_length, smv_token_length, symbol_length, token_length, word_length};
+ghost use Rattle.explain_core.specs.Tokens.{ends_symbol, goes_on, is_word_byte, moxi_token_length, sign_length, smv_token_length, symbol_length, token_length, word_length};
+ghost use Rattle.text_core.specs.Bytes.{is_letter};
 
 use text_core::{Kind, is_digit};
 

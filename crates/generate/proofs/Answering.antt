@@ -20,8 +20,9 @@ use Rattle.command_core.specs.declared.answer.Answer.{Answer}
 use Rattle.command_core.specs.declared.answer.Answer.TheVariants as answer
 use Rattle.smv_commands.specs.Models.{IsCheckRefusal, IsFormIn}
 use Rattle.generate.specs.Made.{lines_text, made_model, made_witness}
-use Rattle.generate.specs.Generating.{HasForm, IsGenerated, IsSummary, OfLines, OfModels, OfWitness, summary_lines, summary_text, verdict_for}
+use Rattle.generate.specs.Generating.{IsGenerated, IsSummary, OfLines, OfModels, OfWitness, summary_lines, summary_text, verdict_for}
 use Rattle.generate.proofs.Forms.{lines_are}
+use Rattle.witness_lift.specs.Breaking.{HasForm}
 
 -- the summary of the lines of a model's flat form is that of the model
 pub summarised : {E : Type 0} (n : ℕ) (source : PlainSource) (lines nodes : List Line) (w : Witness) (weight frames : ℕ) (result : Result (List ℕ) E)

@@ -20,12 +20,12 @@ use Rattle.moxi_terms.specs.declared.data.Datum.{Datum}
 use Rattle.moxi_terms.specs.Value.{Values}
 use Rattle.moxi_flat.specs.FlatSystem.{PlainFlatSystem, flat_of}
 use Rattle.moxi_lines.specs.Lines.{lines_of}
-use Rattle.moxi_lift.specs.Laws.{trace_of}
 use Rattle.moxi_lift.specs.Lifted.{lifted}
 use Rattle.witness_lift.specs.Breaking.{BreaksLast, IsFormOf}
 use Rattle.witness_lift.specs.Lifting.{lifted_run, lines_in, run_in, system_in}
 use Rattle.generate.specs.Generating.{run_for}
 use Rattle.generate.specs.Laws.{InputsAreVariables}
+use Rattle.moxi_scripts.specs.Behaviour.{trace_of}
 
 steps_long : (decoded : Values → List Given) (trace : ℕ → Values) (j n : ℕ) → length (decoded_steps decoded trace j n) ≡ n
 steps_long decoded trace j zero = refl

@@ -3,7 +3,6 @@ use Rattle.std.proofs.Common.{◌≡◌, ℕ, zero, suc, ◌+◌, true, cond, if
 use Rattle.std.specs.List.{filter, AllByRecursion}
 use Rattle.std.proofs.lemmas.Slice.Eq.{bytes_eq-Decides}
 use Rattle.btor_witness.specs.declared.witness.Witness.{Witness}
-use Rattle.moxi_lift.specs.Laws.{trace_of}
 use Rattle.moxi_lift.specs.Lifted.{lifted}
 use Rattle.moxi_terms.specs.Value.{Values}
 use Rattle.smv_flatten.specs.FlatModel.{FlatModel, flat_plain}
@@ -19,6 +18,7 @@ use Rattle.smv_rows.specs.RowOrders.{is_input}
 use Rattle.smv_script.specs.Script.{coding_of}
 use Rattle.smv_script_laws.specs.Decoding.{is_of_state, is_of_label, decoded_item, decoded_from, decoded_state, decoded_label, decoded_steps}
 use Rattle.witness_lift.specs.Lifting.{lifted_run, system_in}
+use Rattle.moxi_scripts.specs.Behaviour.{trace_of}
 
 first_named : (m : PlainFlatItem) (ms : List PlainFlatItem) (g : Given) (gs : List Given) → g.name ≡ m.name → are_named_after ms gs ≡ true → are_named_after (m ∷ ms) (g ∷ gs) ≡ true
 first_named m ms g gs e h = two_true (bytes_eq m.name g.name) (are_named_after ms gs) ((bytes_eq-Decides m.name g.name).1 (sym e)) h

@@ -19,13 +19,13 @@ use Rattle.smv_script_laws.specs.RunLaws.{decoded_run}
 use Rattle.smv_flatten.specs.FlatModel.{FlatModel}
 use Rattle.witness_lift.specs.Breaking.{IsFormOf}
 use Rattle.witness_lift.specs.LineLaws.{model_lines, model_system}
-use Rattle.moxi_lift.specs.Laws.{trace_of}
 use Rattle.moxi_lift.specs.Lifted.{lifted}
 use Rattle.command_core.specs.declared.answer.Answer.{Answer}
 use Rattle.command_core.specs.declared.answer.Answer.TheVariants.{SecondRefused, No, Done}
 use Rattle.command_core.specs.declared.answer.Output.TheVariants.{Text}
 use Rattle.smv_commands.specs.Models.{IsAcceptedModel, IsRefusal}
 use Rattle.generate.specs.Made.{lines_text, made_model, made_witness}
+use Rattle.moxi_scripts.specs.Behaviour.{trace_of}
 
 -- ---- the summary
 
@@ -82,10 +82,6 @@ OfLines n second source lines answer = ((w : Witness) × SpellsWitness lines sec
 -- something of each model that has this flat form and this weight
 abbrev pub OfModels : FlatModel → (PlainSource → Type 0) → Type 0
 OfModels f P = (source : PlainSource) → IsFormOf source f → f.weight ≡ weight_of source → P source
-
--- some model has this flat form
-abbrev pub HasForm : FlatModel → Type 0
-HasForm f = (source : PlainSource) × IsFormOf source f
 
 -- ---- the answer, of texts
 

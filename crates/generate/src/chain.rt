@@ -6,11 +6,11 @@ ghost use Rattle.btor_witness.specs.Judging.{judged_btor};
 ghost use Rattle.btor_witness.specs.Printing.{IsWitness};
 ghost use Rattle.btor_witness.specs.Sizes.{most_frames, sizes_of};
 ghost use Rattle.btor_witness.specs.Texts.{SpellsWitness};
-ghost use Rattle.witness_lift.specs.Breaking.{BreaksLast};
+ghost use Rattle.witness_lift.specs.Breaking.{BreaksLast, HasForm};
 ghost use Rattle.witness_lift.specs.Lifting.{lifted_run, lines_in};
 ghost use Rattle.generate.specs.Made.{made_witness};
 ghost use Rattle.command_core.specs.declared.answer.Stop.TheVariants as Stop;
-ghost use Rattle.generate.specs.Generating.{HasForm, IsSummary, OfLines, OfModels, OfWitness};
+ghost use Rattle.generate.specs.Generating.{IsSummary, OfLines, OfModels, OfWitness};
 
 use crate::judged::says_yes;
 use crate::laws::inputs_are_variables;

@@ -20,11 +20,12 @@ use Rattle.moxi_flat.specs.FlatSystem.{flat_of}
 use Rattle.moxi_flat.specs.FlatLaws.{TracesHaveFlatTraces}
 use Rattle.moxi_lines.specs.Lines.{lines_of}
 use Rattle.moxi_layout.specs.LayoutLaws.{IsLaidOut}
-use Rattle.moxi_lift.specs.Laws.{LiftsMeetQueries, MeetsQueryOf, trace_of}
+use Rattle.moxi_lift.specs.Laws.{LiftsMeetQueries, MeetsQueryOf}
 use Rattle.moxi_lift.specs.Lifted.{lifted}
 use Rattle.moxi_commands.specs.Translation.{btor_text}
 use Rattle.moxi_commands.specs.MoxiLift.{LiftsBack, lifted_response}
 use Rattle.btor_commands.proofs.Lifted.{spelled_fits}
+use Rattle.moxi_scripts.specs.Behaviour.{trace_of}
 
 -- the text's lines are those of the script's flat system
 own_lines : (s : PlainScript) → ((lines : List Line) → IsWellFormed lines → SpellsLines (printed lines) lines) → ((text : List ℕ) (lines others : List Line) → SpellsLines text lines → SpellsLines text others → lines ≡ others)

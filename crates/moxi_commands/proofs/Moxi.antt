@@ -21,7 +21,7 @@ use Rattle.moxi_terms.specs.Tree.{sorts_of}
 use Rattle.moxi_flat.specs.FlatMeeting.{MeetsFlat}
 use Rattle.moxi_instantiate.proofs.Measured.{lt_held}
 use Rattle.moxi_judge.specs.Judging.{IsStatedTrace}
-use Rattle.moxi_lift.specs.Laws.{MeetsQueryOf, trace_of}
+use Rattle.moxi_lift.specs.Laws.{MeetsQueryOf}
 use Rattle.moxi_lift.specs.Lifted.{lifted}
 use Rattle.moxi_trace.specs.Texts.{response_text}
 use Rattle.moxi_responses.specs.Declaring.{declared_of}
@@ -44,6 +44,7 @@ use Rattle.moxi_commands.proofs.Refused.{not_refused, one_system_refusal, same_s
 use Rattle.btor_commands.specs.Lifting.{IsLift, OfLines, OfText}
 use Rattle.moxi_commands.specs.MoxiLift.{IsLiftedResponse, IsMoxiLift, OfBytes, OfChecks, TracesAreLifted, lifted_response}
 use Rattle.btor_commands.proofs.Lifted.{done_second, one_of_lines}
+use Rattle.moxi_scripts.specs.Behaviour.{trace_of}
 
 -- ---- one answer
 

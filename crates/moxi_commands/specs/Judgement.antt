@@ -11,7 +11,6 @@ use Rattle.moxi_scripts.specs.Asking.{query_at}
 use Rattle.moxi_scripts.specs.Meeting.{judged_moxi}
 use Rattle.moxi_flat.specs.FlatMeeting.{hidden_values}
 use Rattle.moxi_flat.specs.Limits.{flat_refusal}
-use Rattle.moxi_judge.specs.Judging.{trace_of}
 use Rattle.moxi_trace.specs.declared.point.Answered.{Answered}
 use Rattle.moxi_trace.specs.Responses.{response_of}
 use Rattle.moxi_trace.specs.Texts.{symbol_text}
@@ -22,6 +21,7 @@ use Rattle.command_core.specs.declared.answer.Output.TheVariants as output
 use Rattle.command_core.specs.Reading.{ContinuesWith, file_within}
 use Rattle.moxi_commands.specs.Limits.{most_script_bytes, most_response_bytes}
 use Rattle.moxi_commands.specs.Scripts.{IsRefusal, IsScriptText, script_too_long}
+use Rattle.moxi_scripts.specs.Behaviour.{trace_of}
 
 -- the answer for a response that is too long
 abbrev pub response_too_long : Answer

@@ -14,7 +14,6 @@ use Rattle.moxi_scripts.specs.Script.{PlainScript}
 use Rattle.moxi_scripts.specs.Meeting.{MeetsQuery}
 use Rattle.moxi_flat.specs.FlatSystem.{flat_of}
 use Rattle.moxi_flat.specs.Limits.{flat_refusal}
-use Rattle.moxi_lift.specs.Laws.{trace_of}
 use Rattle.moxi_lift.specs.Lifted.{lifted}
 use Rattle.moxi_trace.specs.Texts.{response_text}
 use Rattle.moxi_responses.specs.Declaring.{declared_of}
@@ -25,6 +24,7 @@ use Rattle.moxi_commands.specs.Limits.{most_script_bytes}
 use Rattle.moxi_commands.specs.Scripts.{IsRefusal, script_too_long}
 use Rattle.moxi_commands.specs.Translation.{IsInstantiated, btor_text}
 use Rattle.btor_commands.specs.Lifting.{OfLines}
+use Rattle.moxi_scripts.specs.Behaviour.{trace_of}
 
 -- the text of the response that the trace to which a witness is lifted meets the query of its bad line
 unfoldable pub lifted_response : PlainScript → Witness → List ℕ

@@ -30,8 +30,9 @@ use Rattle.moxi_scripts.specs.Entries.{entries_of, known_sort}
 use Rattle.moxi_scripts.specs.Shapes.{HeadedForms, NamedForm, headed, named, named_in, parts_of, triple_of}
 use Rattle.moxi_scripts.specs.Systems.{SystemReading, bare_system, content_of, locals_of, names_with_system, shaped_system, with_new_system, with_system}
 use Rattle.moxi_scripts.specs.Uses.{actuals_in, use_among, use_headed, use_named, use_of, uses_in}
-use Rattle.moxi_attributes.specs.laws.FormSizes.{headed_few, named_few, nodes_some, parts_few}
+use Rattle.moxi_attributes.specs.laws.FormSizes.{headed_few, named_few, parts_few}
 use Rattle.moxi_declarations.specs.Sizes.{reading_size, scope_size}
+use Rattle.moxi_term_reading.proofs.BoundLaws.{nodes_some}
 
 pub symbols_few : (ts : Trees) → length (symbols_in ts) ≤ all_nodes ts
 symbols_few no_trees = omega arith

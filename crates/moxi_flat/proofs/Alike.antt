@@ -4,13 +4,13 @@ use Rattle.std.proofs.lemmas.List.{length-append, length-map}
 use Rattle.moxi_terms.specs.Tree.{Tree, constant, variable, bound, apply, binding, call, Trees, no_trees, tree, list_of}
 use Rattle.moxi_scripts.specs.declared.script.Subsystem.{Subsystem}
 use Rattle.moxi_scripts.specs.Script.{PlainSystem, system_at, variables_in}
-use Rattle.moxi_scripts.specs.laws.WholeParts.{all_of}
 use Rattle.moxi_flat.specs.Terms.{operator_size, term_height, term_size, terms_height, terms_size}
 use Rattle.moxi_flat.specs.Instantiating.{HasActuals, RenumbersConsistently, SystemsAreOverVariables}
 use Rattle.moxi_flat.specs.Renumbering.{AreOver, IsOver, all_renumbered, renumbered}
 use Rattle.moxi_flat.proofs.Fine.{interface, own_sorts, sort_of}
 use Rattle.moxi_flat.proofs.Scripts.{are_fine, there_at}
 use Rattle.moxi_flat.proofs.Values.{ActualsFit, actual_there, actuals_long}
+use Rattle.moxi_terms.proofs.ScopeLaws.{all_of}
 
 module _ (n : ℕ) (place other : ℕ → ℕ) (agree : (v : ℕ) → v < n → place v ≡ other v) where
   mutual

@@ -9,7 +9,6 @@ use Rattle.moxi_scripts.specs.declared.script.Subsystem.{Subsystem}
 use Rattle.moxi_scripts.specs.Script.{PlainSystem, system_at}
 use Rattle.moxi_scripts.specs.Behaviour.{Trace}
 use Rattle.moxi_scripts.specs.Meeting.{Hiddens, hidden, more_hidden}
-use Rattle.moxi_scripts.specs.laws.WholeParts.{all_of}
 use Rattle.moxi_flat.specs.Terms.{term_height, term_size}
 use Rattle.moxi_flat.specs.Systems.{greatest_by, instance_height, instance_size, nesting_upto}
 use Rattle.moxi_flat.specs.FlatMeeting.{hiddens_each, hiddens_upto}
@@ -18,6 +17,7 @@ use Rattle.moxi_flat.specs.Instantiating.{IsEnough, LocalsAreCounted, NestingFal
 use Rattle.moxi_flat.proofs.Nesting.{Nests}
 use Rattle.moxi_flat.proofs.Scripts.{nests_at}
 use Rattle.moxi_flat.proofs.Small.{locals_counted}
+use Rattle.moxi_terms.proofs.ScopeLaws.{all_of}
 
 -- LISTS OF SUBSYSTEMS
 

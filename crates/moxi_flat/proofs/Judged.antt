@@ -24,6 +24,7 @@ use Rattle.moxi_flat.specs.FlatMeeting.{IsFlatTrace, MeetsFlat, PartHolds}
 use Rattle.moxi_flat.specs.FlatLaws.{AreTested, FlatTracesAreJudged, SuitsFlat, WritesOut}
 use Rattle.moxi_flat.proofs.Scripts.{carried_flat, flat_behaves, flat_meets}
 use Rattle.moxi_flat.proofs.Tested.{parts_are_tested_law}
+use Rattle.text_core.proofs.Numerals.{next_is, from_start}
 
 -- VERDICTS
 
@@ -96,12 +97,6 @@ module _ (s : PlainScript) (flat : Trace) where
 module _ (s : PlainScript) (w : IsValid s) (q : Query) (k : ℕ) (trace : Trace) (hs : Hiddens) (flat : Trace) (out : WritesOut s k trace hs flat) (suits : SuitsFlat s k flat) where
   abbrev ps : List PlainPart
   ps = (flat_of s).parts
-
-  next_is : (j : ℕ) → suc j ≡ j + 1
-  next_is j = omega arith
-
-  from_start : (j : ℕ) → 0 + j ≡ j
-  from_start j = omega arith
 
   tested : (i j : ℕ) → i ≤ k → j ≤ k → AreTested s trace hs flat i j
   tested = parts_are_tested_law s w k trace hs flat out

@@ -1,42 +1,18 @@
 -- No system nests deeper than there are systems, where ranks fall from each system to those that it contains.
-use Rattle.std.proofs.Common.{◌≡◌, ℕ, zero, suc, ◌+◌, ◌<◌, ◌≤◌, eqb, nat_lt, Bool, true, false, cond, List, [], ◌∷◌, length, refl, ap, subst, arith}
+use Rattle.std.proofs.Common.{◌≡◌, ℕ, zero, suc, ◌<◌, eqb, nat_lt, true, false, List, [], ◌∷◌, length, refl, subst, arith}
 use Rattle.std.specs.List.{AllByRecursion}
 use Rattle.std.proofs.lemmas.Bool.Decides.{nat_tests}
 use Rattle.moxi_scripts.specs.declared.script.Subsystem.{Subsystem}
 use Rattle.moxi_scripts.specs.Script.{PlainSystem, system_at}
-use Rattle.moxi_scripts.proofs.WholeRanks.{bit}
+use Rattle.moxi_scripts.proofs.WholeRanks.{count, count_less}
 
 -- from a system one comes to no subsystem through more than so many systems
 abbrev pub Nests : ℕ → List PlainSystem → ℕ → Type 0
 Nests zero ss i = ⊥
 Nests (suc depth) ss i = (i < length ss) × AllByRecursion (λ (b : Subsystem). Nests depth ss b.system) (system_at ss i).subsystems
 
--- how many numbers below n pass
-count : (ℕ → Bool) → ℕ → ℕ
-count p zero = 0
-count p (suc n) = cond (p n) 1 0 + count p n
-
-count_most : (p q : ℕ → Bool) (n : ℕ) → ((m : ℕ) → q m ≡ true → p m ≡ true) → count q n ≤ count p n
-unfolding count
-count_most p q zero f = omega arith
-count_most p q (suc n) f = let a = bit (q n) (p n) (f n) in let b = count_most p q n f in omega arith
-
 equal : (x n : ℕ) → eqb x n ≡ true → x ≡ n
 equal x n e = grind (arith, nat_tests)
-
-count_less : (p q : ℕ → Bool) (n x : ℕ) → ((m : ℕ) → q m ≡ true → p m ≡ true) → x < n → p x ≡ true → q x ≡ false → count q n < count p n
-unfolding count
-count_less p q zero x f h a b = absurd (omega arith)
-count_less p q (suc n) x f h a b = by_place (eqb x n) refl (count_less p q n x f)
-  where
-    by_place : (t : Bool) → eqb x n ≡ t → (x < n → p x ≡ true → q x ≡ false → count q n < count p n) → cond (q n) 1 0 + count q n < cond (p n) 1 0 + count p n
-    by_place true e rest =
-        let same : x ≡ n = equal x n e in
-        let one : (let k : ℕ = cond (p n) 1 0 in k) ≡ 1 = ap (λ t. cond t 1 0) (subst (λ k. p k ≡ true) same a) in
-        let none : (let k : ℕ = cond (q n) 1 0 in k) ≡ 0 = ap (λ t. cond t 1 0) (subst (λ k. q k ≡ false) same b) in
-        let l = count_most p q n f in
-        omega arith
-    by_place false e rest = let below : x < n = grind (arith, nat_tests) in let l = rest below a b in let k = bit (q n) (p n) (f n) in omega arith
 
 count_all : (n : ℕ) → count (λ m. true) n ≡ n
 unfolding count

@@ -17,7 +17,7 @@ use Rattle.moxi_scripts.specs.Script.{PlainFormula, PlainScript, PlainSystem, ca
 use Rattle.moxi_scripts.specs.Behaviour.{Behaves, Holds, Suits, Trace}
 use Rattle.moxi_scripts.specs.Meeting.{MeetsQuery}
 use Rattle.moxi_scripts.specs.Valid.{AreFormulas, IsFormula, IsValid, IsValidSubsystem, IsValidSystem, check_variables, over}
-use Rattle.moxi_scripts.specs.laws.WholeParts.{all_at, all_of, get_there, index_get, map_append}
+use Rattle.moxi_scripts.specs.laws.WholeParts.{all_at, get_there, index_get, map_append}
 use Rattle.moxi_scripts.proofs.AskingStands.{stands_sorted}
 use Rattle.moxi_scripts.proofs.WholeRanks.{valid_has_ranks}
 use Rattle.moxi_flat.specs.Renumbering.{IsOver}
@@ -30,6 +30,7 @@ use Rattle.moxi_flat.proofs.Nesting.{Nests, nests}
 use Rattle.moxi_flat.proofs.Fine.{AreFine, IsFine, hidden_sorts, interface, own_sorts, sort_of, sorts_are}
 use Rattle.moxi_flat.proofs.Shown.{Shows, shown}
 use Rattle.moxi_flat.proofs.Written.{of_sorts, written}
+use Rattle.moxi_terms.proofs.ScopeLaws.{all_of}
 
 -- WHAT A WHOLE SCRIPT GIVES
 

@@ -14,7 +14,7 @@ use Rattle.moxi_term_reading.specs.laws.SortedParts.{known_variables}
 use Rattle.moxi_scripts.specs.declared.script.Subsystem.{Subsystem}
 use Rattle.moxi_scripts.specs.Script.{PlainFormula, PlainScript, PlainSystem, no_system, system_at, variables_in}
 use Rattle.moxi_scripts.specs.Valid.{AreFormulas, IsFormula, IsValid, IsValidSystem, check_variables, over}
-use Rattle.moxi_scripts.specs.laws.WholeParts.{all_append, all_of, all_parts, get_there, index_get}
+use Rattle.moxi_scripts.specs.laws.WholeParts.{all_append, all_parts, get_there, index_get}
 use Rattle.moxi_scripts.proofs.AskingStands.{stands_sorted}
 use Rattle.moxi_flat.specs.Renumbering.{renumbered}
 use Rattle.moxi_flat.specs.FlatSystem.{count_upto, flat_of, part_of, parts_each, parts_upto, place_inside}
@@ -27,6 +27,7 @@ use Rattle.moxi_flat.proofs.Fine.{count_is, hidden_sorts, interface, local_sorts
 use Rattle.moxi_flat.proofs.Shown.{behind_locals, behind_within}
 use Rattle.moxi_flat.proofs.Scripts.{are_fine, check_long, check_sorts_are, checked, flat_sorts, hidden_ones, nests_checked, whole_at}
 use Rattle.moxi_flat.proofs.Kept.{Keeps, sorted_renumbered, stands_unprimed, unprimed_renumbered}
+use Rattle.moxi_terms.proofs.ScopeLaws.{all_of}
 
 module _ (s : PlainScript) (w : IsValid s) where
   abbrev ss : List PlainSystem

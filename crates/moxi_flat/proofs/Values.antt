@@ -10,6 +10,7 @@ use Rattle.moxi_terms.specs.Value.{Values}
 use Rattle.moxi_scripts.specs.Behaviour.{Suits}
 use Rattle.moxi_scripts.specs.laws.WholeParts.{index_get}
 use Rattle.moxi_flat.specs.FlatSystem.{place_inside}
+use Rattle.text_core.proofs.ListLaws.{rest_of}
 
 -- an element of two lists
 pub get_front : {A : Type 0} (xs ys : List A) (i : ℕ) (x : A) → slice_get xs i ≡ Some x → slice_get (xs ++ ys) i ≡ Some x
@@ -43,10 +44,6 @@ ActualsFit vars (v ∷ vs) [] = ⊥
 abbrev first_of : {A : Type 0} → A → List A → A
 first_of d [] = d
 first_of d (x ∷ xs) = x
-
-abbrev rest_of : {A : Type 0} → List A → List A
-rest_of [] = []
-rest_of (x ∷ xs) = xs
 
 pub actuals_fit : (vars : List Sort) (vs : List ℕ) (ss : List Sort) → map (slice_get vars) vs ≡ map {B = Option Sort} Some ss → ActualsFit vars vs ss
 actuals_fit vars [] [] e = tt

@@ -13,12 +13,12 @@ use Rattle.moxi_scripts.specs.declared.script.Query.{Query}
 use Rattle.moxi_scripts.specs.Script.{PlainScript}
 use Rattle.moxi_scripts.proofs.Forms.{items_step}
 use Rattle.moxi_scripts.specs.Asking.{query_tests}
-use Rattle.moxi_scripts.specs.Behaviour.{Trace}
+use Rattle.moxi_scripts.specs.Behaviour.{Trace, trace_of}
 use Rattle.moxi_scripts.specs.Meeting.{all_reached, ends_reached, first_failing, is_reached_before, reaches, verdict_or}
 use Rattle.moxi_flat.specs.FlatSystem.{PlainFlatSystem}
 use Rattle.moxi_judge.specs.FlatTests.{Remember, free_script, failing_at, judged_by_parts, later_tests, part_tests}
-use Rattle.moxi_judge.specs.Judging.{trace_of}
 use Rattle.moxi_judge.proofs.Elements.{found_at}
+use Rattle.text_core.proofs.Truths.{or_false as or_nothing}
 
 -- ---- steps
 
@@ -35,10 +35,6 @@ later_is f envs (suc j) a b n l ea eb =
     ap (λ x. later_tests f (at x) (at b)) before ∙ ap (λ x. later_tests f (trace_of envs j) (at x)) now
 
 -- ---- reachable formulas
-
-or_nothing : (b : Bool) → (b || false) ≡ b
-or_nothing true = refl
-or_nothing false = refl
 
 -- where all numbers were gone through
 pub reached_end : (test reached : ℕ → Bool) (is : List ℕ) (i : ℕ) (some : Bool) → drop i is ≡ [] → list_all test (drop i is) ≡ list_all test is → (some || list_any reached (drop i is)) ≡ list_any reached is

@@ -20,7 +20,7 @@ use Rattle.moxi_terms.specs.Value.{at, term_value}
 use Rattle.moxi_scripts.specs.declared.script.Query.{Query}
 use Rattle.moxi_scripts.specs.Script.{PlainScript, calls_in}
 use Rattle.moxi_scripts.specs.Asking.{NothingFails, query_tests, system_tests}
-use Rattle.moxi_scripts.specs.Behaviour.{Behaves, Holds, Suits, Trace, behaves, no_subsystems}
+use Rattle.moxi_scripts.specs.Behaviour.{Behaves, Holds, Suits, Trace, behaves, no_subsystems, trace_of}
 use Rattle.moxi_scripts.specs.Meeting.{Hiddens, MeetsQuery, all_hold, first_failing, is_reached_before, is_true, step_tests, verdict_or}
 use Rattle.moxi_scripts.specs.Meeting.{judged_from as judged_by_systems}
 use Rattle.moxi_scripts.specs.Valid.{IsValid}
@@ -28,10 +28,11 @@ use Rattle.moxi_flat.specs.FlatSystem.{PlainFlatSystem, PlainPart, flat_of}
 use Rattle.moxi_flat.specs.FlatMeeting.{IsFlatTrace, MeetsFlat, PartHolds, hidden_values}
 use Rattle.moxi_flat.specs.FlatLaws.{AreTested, HiddenValuesAreWritten, PartsAreTested}
 use Rattle.moxi_judge.specs.FlatTests.{Fits, free_script, failing_at, judged_by_parts, part_tests}
-use Rattle.moxi_judge.specs.Judging.{IsStatedTrace, trace_of}
+use Rattle.moxi_judge.specs.Judging.{IsStatedTrace}
 use Rattle.moxi_judge.proofs.Elements.{all_at}
 use Rattle.moxi_flat.proofs.Judged.{neither, verdict_yes}
 use Rattle.moxi_scripts.proofs.MeetingLaws.{passed, passes, true_is}
+use Rattle.text_core.proofs.Numerals.{next_is, from_start}
 
 -- ---- steps
 
@@ -131,12 +132,6 @@ QueriesAsk = (s : PlainScript) (q : Query) (k : ℕ) (trace : Trace) → MeetsQu
 module _ (meets : QueriesAreMet) (asks : QueriesAsk) (f : PlainFlatSystem) (q : Query) (k : ℕ) (flat : Trace) (suits : (j : ℕ) → j ≤ k → Suits f.scope.enumerations (sorts_of f.variables) (flat j)) where
   abbrev ps : List PlainPart
   ps = f.parts
-
-  next_is : (j : ℕ) → suc j ≡ j + 1
-  next_is j = omega arith
-
-  from_start : (j : ℕ) → 0 + j ≡ j
-  from_start j = omega arith
 
   abbrev Passes : ℕ → Type 0
   Passes j = failing_at f q k flat j ≡ None

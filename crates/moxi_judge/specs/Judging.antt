@@ -1,15 +1,9 @@
 -- The traces of a flat system that are judged, as lists of environments.
-use Rattle.std.specs.Prelude.{◌≤◌, List, [], length, slice_index_or}
+use Rattle.std.specs.Prelude.{◌≤◌, List, length}
 use Rattle.std.specs.List.{AllByRecursion}
 use Rattle.moxi_terms.specs.declared.data.Datum.{Datum}
-use Rattle.moxi_terms.specs.Value.{at}
-use Rattle.moxi_scripts.specs.Behaviour.{Trace}
 use Rattle.moxi_flat.specs.FlatSystem.{PlainFlatSystem}
 use Rattle.moxi_judge.specs.FlatTests.{Fits}
-
--- what the variables have at each step
-abbrev pub trace_of : List (List Datum) → Trace
-trace_of envs j = at (slice_index_or envs j [])
 
 -- one or more steps, each with a value of its sort for each variable, hidden ones too
 pub record IsStatedTrace (f : PlainFlatSystem) (envs : List (List Datum)) : Type 0 where

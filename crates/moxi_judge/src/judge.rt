@@ -7,7 +7,8 @@ ghost use Rattle.moxi_scripts.specs.Meeting.{is_reached_before, judged_moxi};
 ghost use Rattle.moxi_flat.specs.FlatMeeting.{MeetsFlat, hidden_values};
 ghost use Rattle.moxi_flat.specs.FlatSystem.{flat_of};
 ghost use Rattle.moxi_judge.specs.FlatTests.{CanJudge, Fits, IsQueryOf, Remember, free_script, failing_at, judged_by_parts};
-ghost use Rattle.moxi_judge.specs.Judging.{IsStatedTrace, trace_of};
+ghost use Rattle.moxi_judge.specs.Judging.{IsStatedTrace};
+ghost use Rattle.moxi_scripts.specs.Behaviour.{trace_of};
 
 use crate::parts::parts_failing;
 use crate::queries::{mark_reached, query_failing};

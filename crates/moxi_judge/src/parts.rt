@@ -7,7 +7,7 @@ ghost use Rattle.moxi_scripts.specs.Meeting.{first_failing, is_true};
 ghost use Rattle.moxi_flat.specs.FlatSystem.{PlainPart};
 ghost use Rattle.moxi_instantiate.specs.PlainParts.{plain_part};
 ghost use Rattle.moxi_judge.specs.FlatTests.{Fits, IsPartOf, free_script, formula_of, later_tests, part_tests, parts_hold, start_tests};
-ghost use Rattle.moxi_judge.specs.Judging.{trace_of};
+ghost use Rattle.moxi_scripts.specs.Behaviour.{trace_of};
 
 use crate::terms::is_true;
 use moxi_instantiate::{FlatSystem, Part};

@@ -23,13 +23,13 @@ use Rattle.moxi_layout.proofs.Entries.{entries_long, flat_none, none, of_append,
 use Rattle.moxi_layout.proofs.Sizes.{bad_ordered}
 
 module _ (lines : List Line) where
-  rows_long : (begun : Bool) (before : List BitVector) (stated : List Statement) (rows : List (List BitVector)) → AreStatedAfter lines begun before stated rows → length rows ≡ length stated
+  pub rows_long : (begun : Bool) (before : List BitVector) (stated : List Statement) (rows : List (List BitVector)) → AreStatedAfter lines begun before stated rows → length rows ≡ length stated
   rows_long begun before [] [] a = refl
   rows_long begun before [] (row ∷ rows) a = absurd a
   rows_long begun before (s ∷ more) [] a = absurd a
   rows_long begun before (s ∷ more) (row ∷ rows) a = ap suc (rows_long true row more rows a.1)
 
-  rows_follow : (before : List BitVector) (stated : List Statement) (rows : List (List BitVector)) → AreStatedAfter lines true before stated rows → Follow lines before rows
+  pub rows_follow : (before : List BitVector) (stated : List Statement) (rows : List (List BitVector)) → AreStatedAfter lines true before stated rows → Follow lines before rows
   rows_follow before [] [] a = tt
   rows_follow before [] (row ∷ rows) a = absurd a
   rows_follow before (s ∷ more) [] a = absurd a

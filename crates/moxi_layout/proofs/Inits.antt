@@ -1,12 +1,11 @@
 -- States that have no init: latches give one to their own states alone, and the lines of variables and parts give none.
-use Rattle.std.proofs.Common.{◌≡◌, ℕ, ◌<◌, ◌≤◌, Bool, true, false, cond, eqb, Option, List, [], ◌∷◌, ◌++◌, length, Some, None, refl, sym, ap, ◌∙◌, subst, arith}
+use Rattle.std.proofs.Common.{◌≡◌, ℕ, ◌<◌, ◌≤◌, Bool, true, false, cond, eqb, List, [], ◌∷◌, ◌++◌, length, Some, None, refl, sym, ap, ◌∙◌, subst, arith}
 use Rattle.std.specs.Prelude.{codes, flat_map}
 use Rattle.std.specs.Option.{option_or}
 use Rattle.std.specs.List.{AllByRecursion}
 use Rattle.std.proofs.lemmas.Bool.Decides.{nat_tests}
 use Rattle.std.proofs.lemmas.List.{append_cancel_left}
 use Rattle.word_core.specs.declared.kinds.Binary.TheVariants as two
-use Rattle.btor_tree.specs.declared.args.Arg.{Arg}
 use Rattle.btor_tree.specs.declared.lines.Line.{Line}
 use Rattle.btor_tree.specs.declared.lines.LineOp.{LineOp}
 use Rattle.btor_tree.specs.declared.lines.LineOp.TheVariants as line
@@ -28,6 +27,7 @@ use Rattle.moxi_layout.proofs.LatchLines.{given_line, latch_extends, latch_is, n
 use Rattle.moxi_layout.proofs.Conditions.{chain_grows_on, conditions_extend, formula_grows}
 use Rattle.moxi_layout.proofs.Reachables.{reachable_extends, seen_grows, seen_name}
 use Rattle.moxi_layout.proofs.Goals.{all_met_grows, nothing_reached, one_met_grows, query_extends}
+use Rattle.text_core.proofs.Truths.{or_none}
 
 -- the states that are in lines keep their inits behind more lines
 pub record KeepsInits (old new : List Line) : Type 0 where
@@ -39,10 +39,6 @@ keeps_none lines = record { long = omega arith; same = λ s h. refl }
 
 keeps_then : (a b c : List Line) → KeepsInits a b → KeepsInits b c → KeepsInits a c
 keeps_then a b c g h = record { long = omega (arith, g.long, h.long); same = λ s l. h.same s (omega (arith, l, g.long)) ∙ g.same s l }
-
-or_none : (o : Option Arg) → option_or o None ≡ o
-or_none None = refl
-or_none (Some x) = refl
 
 pub shared_init : (o : LineOp) → is_shared o ≡ true → is_init o ≡ false
 shared_init line.Init h = absurd (cc)

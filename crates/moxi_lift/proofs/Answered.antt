@@ -18,7 +18,6 @@ use Rattle.moxi_terms.specs.Sorted.{AreSorts}
 use Rattle.moxi_terms.specs.Sorts.{Fit}
 use Rattle.moxi_terms.specs.Tree.{sorts_of}
 use Rattle.moxi_terms.specs.View.{ScopeState}
-use Rattle.moxi_scripts.specs.laws.WholeParts.{all_of}
 use Rattle.moxi_flat.specs.FlatSystem.{PlainFlatSystem}
 use Rattle.moxi_lines.specs.Lines.{lines_of}
 use Rattle.moxi_layout.specs.Layout.{LaysOut}
@@ -29,6 +28,7 @@ use Rattle.moxi_lift.specs.Laws.{AreOfSystem, IsLiftedTrace, LiftsMeetQueries, M
 use Rattle.moxi_lift.proofs.Held.{codes_held, equal_held, full_held, sorts_held}
 use Rattle.moxi_lift.proofs.Fitting.{step_fits, widths_held}
 use Rattle.moxi_lift.proofs.Decoded.{decoded_held}
+use Rattle.moxi_terms.proofs.ScopeLaws.{all_of}
 
 all_map : {X Y : Type 0} (P : X → Type 0) (Q : Y → Type 0) (g : X → Y) (xs : List X) → ((x : X) → P x → Q (g x)) → AllByRecursion P xs → AllByRecursion Q (map g xs)
 all_map P Q g [] h a = tt

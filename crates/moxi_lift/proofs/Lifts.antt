@@ -25,9 +25,10 @@ use Rattle.moxi_layout.proofs.Entries.{sorts_long}
 use Rattle.moxi_layout.proofs.Same.{meets_same}
 use Rattle.moxi_layout.proofs.Terms.{Agree}
 use Rattle.moxi_lift.specs.Lifted.{decoded_frames, lifted, values_upto}
-use Rattle.moxi_lift.specs.Laws.{LiftsAreDecoded, LiftsMeetQueries, MeetsQueryOf, trace_of}
+use Rattle.moxi_lift.specs.Laws.{LiftsAreDecoded, LiftsMeetQueries, MeetsQueryOf}
 use Rattle.moxi_lift.proofs.Accepted.{bad_frames}
 use Rattle.moxi_lift.proofs.Upto.{at_upto}
+use Rattle.moxi_scripts.specs.Behaviour.{trace_of}
 
 map_read : {X Y : Type 0} (g : X → Y) (xs : List X) (j : ℕ) (x : X) (y : Y) → j < length xs → slice_index_or (map g xs) j y ≡ g (slice_index_or xs j x)
 map_read g [] j x y h = absurd (omega (arith, h))

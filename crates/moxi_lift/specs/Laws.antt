@@ -1,5 +1,5 @@
 -- What the witnesses of lines that lay a flat system out are lifted to.
-use Rattle.std.specs.Prelude.{◌≡◌, ℕ, ◌-◌, ◌≤◌, List, [], length, slice_get, slice_index_or, IsSomeAnd}
+use Rattle.std.specs.Prelude.{◌≡◌, ℕ, ◌-◌, ◌≤◌, List, length, slice_get, IsSomeAnd}
 use Rattle.std.specs.List.{AllByRecursion}
 use Rattle.text_core.specs.declared.verdict.Verdict.TheVariants.{Yes}
 use Rattle.word_core.specs.Words.{BitVector}
@@ -14,16 +14,12 @@ use Rattle.moxi_terms.specs.Sorts.{Fit}
 use Rattle.moxi_terms.specs.Tree.{sorts_of}
 use Rattle.moxi_terms.specs.Value.{at}
 use Rattle.moxi_terms.specs.View.{ScopeState}
-use Rattle.moxi_scripts.specs.Behaviour.{Trace}
+use Rattle.moxi_scripts.specs.Behaviour.{trace_of}
 use Rattle.moxi_flat.specs.FlatMeeting.{MeetsFlat}
 use Rattle.moxi_flat.specs.FlatSystem.{PlainFlatSystem}
 use Rattle.moxi_layout.specs.LayoutLaws.{IsLaidOut}
 use Rattle.moxi_layout.specs.Layout.{LaysOut}
 use Rattle.moxi_lift.specs.Lifted.{decoded_frames, lifted}
-
--- what the variables have at each step
-abbrev pub trace_of : List (List Datum) → Trace
-trace_of envs j = at (slice_index_or envs j [])
 
 -- the trace meets the query of this number at its last step
 abbrev pub MeetsQueryOf : PlainFlatSystem → ℕ → List (List Datum) → Type 0

@@ -1,5 +1,5 @@
 -- Words of values: their widths are words' widths, and the value comes back.
-use Rattle.std.proofs.Common.{◌≡◌, ℕ, zero, suc, ◌+◌, ◌<◌, ◌≤◌, ◌^◌, Bool, true, false, cond, nat_le, eqb, List, [], ◌∷◌, length, Some, refl, sym, ap, ◌∙◌, subst, arith, inl, inr, ◌⊎◌}
+use Rattle.std.proofs.Common.{◌≡◌, ℕ, zero, suc, ◌+◌, ◌<◌, ◌≤◌, ◌^◌, true, false, cond, nat_le, eqb, List, [], ◌∷◌, length, Some, refl, sym, ap, ◌∙◌, subst, arith, inl, inr, ◌⊎◌}
 use Rattle.std.specs.Prelude.{slice_get}
 use Rattle.std.specs.List.{AllByRecursion}
 use Rattle.std.proofs.lemmas.Option.{same_Some, none-some}
@@ -20,10 +20,7 @@ use Rattle.moxi_terms.proofs.ValueLaws.{read_at}
 use Rattle.moxi_terms.specs.Names.{constant_count}
 use Rattle.moxi_lines.specs.Codes.{choice_width, code_of, datum_of, sort_bits, width_upto}
 use Rattle.moxi_lines.specs.TermLaws.{HaveCodes}
-
-pub bool_cases : (b : Bool) → (b ≡ true) ⊎ (b ≡ false)
-bool_cases true = inl refl
-bool_cases false = inr refl
+use Rattle.text_core.proofs.Truths.{bool_cases}
 
 grow_step : (count n : ℕ) → (nat_le count (2 ^ width_upto count n) ≡ true) × (width_upto count (suc n) ≡ width_upto count n) ⊎ (nat_le count (2 ^ width_upto count n) ≡ false) × (width_upto count (suc n) ≡ suc (width_upto count n))
 grow_step count n =

@@ -14,6 +14,7 @@ use Rattle.moxi_terms.specs.Tree.{Tree, apply, constant, no_trees, tree, variabl
 use Rattle.moxi_terms.specs.View.{ScopeState}
 use Rattle.moxi_flat.specs.FlatSystem.{PlainFlatSystem}
 use Rattle.moxi_lines.specs.Lines.{head_lines, lines_of}
+use Rattle.moxi_scripts.specs.Formulas.{true_term}
 
 -- an operator line of a truth value, by the ids of its arguments
 abbrev on_one : ℕ → LineOp → ℕ → Line
@@ -33,9 +34,6 @@ not_term t = apply op.Not (tree t no_trees)
 
 abbrev no_names : ScopeState
 no_names = record { enumerations = []; sorts = []; functions = [] }
-
-abbrev true_term : Tree
-true_term = constant (datum.Truth true)
 
 -- a system without a transition
 abbrev no_transition : PlainFlatSystem

@@ -1,6 +1,5 @@
 -- Lines that grow by sorts, constants and operators keep what is in them.
 use Rattle.std.proofs.Common.{◌≡◌, ℕ, ◌<◌, ◌≤◌, true, List, [], ◌∷◌, ◌++◌, length, sym, ap, ◌∙◌, subst, arith, append_assoc}
-use Rattle.std.specs.List.{AllByRecursion}
 use Rattle.std.proofs.lemmas.List.{append-nil, length-append}
 use Rattle.word_core.specs.Words.{BitVector}
 use Rattle.btor_tree.specs.declared.args.Arg.{Arg}
@@ -10,10 +9,7 @@ use Rattle.btor_tree.specs.Frame.{Meets}
 use Rattle.btor_tree.specs.Sharing.{GrowsByShared, is_shared}
 use Rattle.btor_tree.proofs.Grows.{meets_front, slice_get_inside}
 use Rattle.btor_tree.proofs.Widths.{line_at, sort_front, width_front}
-
-all_append : {X : Type 0} (P : X → Type 0) (xs ys : List X) → AllByRecursion P xs → AllByRecursion P ys → AllByRecursion P (xs ++ ys)
-all_append P [] ys a b = b
-all_append P (x ∷ xs) ys a b = (a.0, all_append P xs ys a.1 b)
+use Rattle.text_core.proofs.ListLaws.{all_append}
 
 pub grown_none : (lines : List Line) → GrowsByShared lines lines
 grown_none lines = ([], sym (append-nil lines), tt)

@@ -8,7 +8,7 @@ use Rattle.std.proofs.lemmas.Option.{none-some}
 use Rattle.word_core.specs.Words.{BitVector}
 use Rattle.btor_tree.specs.declared.lines.Line.{Line}
 use Rattle.btor_tree.specs.Fits.{is_input, is_state, width_at}
-use Rattle.btor_tree.specs.Frame.{ConstraintsHold, Follow, IsBad, IsFrame, IsPath}
+use Rattle.btor_tree.specs.Frame.{ConstraintsHold, IsBad, IsFrame, IsPath}
 use Rattle.btor_tree.proofs.Grows.{slice_get_inside}
 use Rattle.btor_frames.specs.Judged.{AreStatedAfter, IsStatedFrame, PassAfter, Statement, StatesAgree, stated_or}
 use Rattle.btor_witness.specs.declared.witness.Frame.{Frame}
@@ -20,7 +20,7 @@ use Rattle.moxi_terms.specs.Tree.{sorts_of}
 use Rattle.moxi_terms.specs.Value.{at}
 use Rattle.moxi_terms.proofs.ValueLaws.{fit_at}
 use Rattle.moxi_scripts.specs.declared.script.Query.{Query}
-use Rattle.moxi_scripts.specs.Behaviour.{Suits}
+use Rattle.moxi_scripts.specs.Behaviour.{Suits, trace_of}
 use Rattle.moxi_scripts.specs.Valid.{IsValidQuery}
 use Rattle.moxi_scripts.specs.laws.WholeParts.{all_at, get_there}
 use Rattle.moxi_flat.specs.FlatMeeting.{MeetsFlat}
@@ -34,31 +34,20 @@ use Rattle.moxi_layout.proofs.Same.{meets_same}
 use Rattle.moxi_layout.proofs.Stated.{stated_there}
 use Rattle.moxi_layout.proofs.Terms.{agree_back}
 use Rattle.moxi_layout.proofs.Values.{ReadsValues, read_inside, read_values}
-use Rattle.moxi_lift.specs.Laws.{LiftsMeetQueries, MeetsQueryOf, trace_of}
+use Rattle.moxi_lift.specs.Laws.{LiftsMeetQueries, MeetsQueryOf}
 use Rattle.moxi_lower.specs.Laws.{AreSteps, LoweredAreJudged, LoweredAreLifted, LoweredAreWitnesses}
 use Rattle.moxi_lower.specs.Lowered.{codes_upto, lowered, lowered_step}
 use Rattle.moxi_lower.proofs.Codes.{code_stated}
 use Rattle.moxi_lift.proofs.Lifts.{YesWhereAccepted}
+use Rattle.moxi_layout.proofs.Accepted.{rows_long, rows_follow}
 
 -- ---- the frames that a witness states
 
 module _ (lines : List Line) where
-  rows_long : (begun : Bool) (before : List BitVector) (stated : List Statement) (rows : List (List BitVector)) → AreStatedAfter lines begun before stated rows → length rows ≡ length stated
-  rows_long begun before [] [] a = refl
-  rows_long begun before [] (row ∷ rows) a = absurd a
-  rows_long begun before (s ∷ more) [] a = absurd a
-  rows_long begun before (s ∷ more) (row ∷ rows) a = ap suc (rows_long true row more rows a.1)
-
-  rows_follow : (before : List BitVector) (stated : List Statement) (rows : List (List BitVector)) → AreStatedAfter lines true before stated rows → Follow lines before rows
-  rows_follow before [] [] a = tt
-  rows_follow before [] (row ∷ rows) a = absurd a
-  rows_follow before (s ∷ more) [] a = absurd a
-  rows_follow before (s ∷ more) (row ∷ rows) a = (a.0.frame, a.0.values, rows_follow row more rows a.1)
-
   rows_path : (stated : List Statement) (rows : List (List BitVector)) → stated ≢ [] → AreStatedAfter lines false [] stated rows → IsPath lines rows
   rows_path [] rows some a = absurd (some refl)
   rows_path (s ∷ more) [] some a = absurd a
-  rows_path (s ∷ more) (row ∷ rows) some a = (a.0.frame, a.0.values, rows_follow row more rows a.1)
+  rows_path (s ∷ more) (row ∷ rows) some a = (a.0.frame, a.0.values, rows_follow lines row more rows a.1)
 
 module _ (f : PlainFlatSystem) (lines : List Line) (laid : IsLaidOut f lines) where
   frames_there : (begun : Bool) (before : List BitVector) → (IsTrue begun → IsFrame lines before) → (frames : List Frame)

@@ -1,11 +1,11 @@
 -- The printed text of the witness of a trace is read as the same witness: its statements are in rising order.
-use Rattle.std.proofs.Common.{◌≡◌, ℕ, zero, suc, ◌<◌, ◌≤◌, List, [], ◌∷◌, ◌++◌, length, map, Some, refl, sym, ap, ◌∙◌, subst, arith}
+use Rattle.std.proofs.Common.{◌≡◌, ℕ, zero, suc, ◌≤◌, List, [], ◌∷◌, ◌++◌, length, map, refl, ap, ◌∙◌, subst, arith}
 use Rattle.btor_tree.specs.declared.lines.Line.{Line}
 use Rattle.btor_tree.specs.Fits.{IsWellFormed, is_input}
 use Rattle.btor_witness.specs.declared.witness.Frame.{Frame}
 use Rattle.btor_witness.specs.declared.witness.Stated.{Stated}
 use Rattle.btor_witness.specs.declared.witness.Witness.{Witness}
-use Rattle.btor_witness.specs.Printing.{IsWithinLimits, IsWitness, one_statement, printed, rising, rising_frame, rising_witness, value_of}
+use Rattle.btor_witness.specs.Printing.{IsWithinLimits, IsWitness, one_statement, printed, rising, rising_frame, rising_witness}
 use Rattle.btor_witness.specs.Sizes.{sizes_of}
 use Rattle.btor_witness.specs.Texts.{SpellsWitness}
 use Rattle.btor_witness.proofs.Tables.{length_widths}
@@ -56,7 +56,7 @@ module _ (f : PlainFlatSystem) (lines : List Line) (laid : IsLaidOut f lines) wh
   in_rising_order j envs = ap (λ (xs : List Frame). record { bad = j; frames = xs }) (frames_in_order envs)
 
 -- a printed witness within the limits is read, with its statements in rising order
-abbrev PrintedIsRead : Type 0
+abbrev pub PrintedIsRead : Type 0
 PrintedIsRead = (lines : List Line) (w : Witness) → IsWellFormed lines → IsWitness (sizes_of lines) w → IsWithinLimits lines w → SpellsWitness lines (printed lines w) (rising_witness (sizes_of lines) w)
 
 pub lowered_are_read_law : LoweredAreWitnesses → PrintedIsRead → LoweredAreRead

@@ -13,9 +13,10 @@ use Rattle.moxi_scripts.specs.declared.script.Subsystem.{Subsystem}
 use Rattle.moxi_scripts.specs.Script.{PlainSystem, system_at}
 use Rattle.moxi_script_print.specs.NamesOfScripts.{IsSpellableSystem, VariablesAreSpellable}
 use Rattle.moxi_scripts.specs.laws.WholeNames.{and_both}
-use Rattle.moxi_scripts.specs.laws.WholeParts.{all_append, all_of}
+use Rattle.moxi_scripts.specs.laws.WholeParts.{all_append}
 use Rattle.moxi_flat.specs.FlatSystem.{locals_each, locals_upto, named_inside, path_inside}
 use Rattle.moxi_trace.specs.ReadBack.{CanBeSpelled}
+use Rattle.moxi_terms.proofs.ScopeLaws.{all_of}
 
 -- ---- bytes
 

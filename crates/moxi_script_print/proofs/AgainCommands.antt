@@ -32,8 +32,9 @@ use Rattle.moxi_script_print.proofs.AgainScopes.{same_sorts_shown, same_variable
 use Rattle.moxi_script_print.proofs.AgainSystems.{AgreeSystem, all_agree, command_form, is_command, system_read}
 use Rattle.moxi_scripts.specs.laws.ListLaws.{get_left, get_right}
 use Rattle.moxi_scripts.specs.laws.WholeNames.{Absent, absent_parts, fresh_first, fresh_split, is_absent, or_both, or_parts, other_way}
-use Rattle.moxi_scripts.specs.laws.WholeParts.{all_append, all_of, all_parts, get_below, map_append}
+use Rattle.moxi_scripts.specs.laws.WholeParts.{all_append, all_parts, get_below, map_append}
 use Rattle.moxi_scripts.specs.laws.WholeScopes.{constants_append, take_whole, term_new}
+use Rattle.moxi_terms.proofs.ScopeLaws.{all_of}
 
 -- what is read so far; no check is read
 abbrev pub reading_at : Option (List ℕ) → ScopeState → List (List ℕ) → List (List ℕ) → List Declared → List SystemReading → Reading

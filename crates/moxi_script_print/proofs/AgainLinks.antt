@@ -32,12 +32,13 @@ use Rattle.moxi_script_print.proofs.AgainChecks.{AgreeCheck}
 use Rattle.moxi_script_print.proofs.AgainCommands.{AgreeSystems, AreUntaken, term_names}
 use Rattle.moxi_script_print.proofs.AgainDeclarations.{same_refl}
 use Rattle.moxi_script_print.proofs.AgainEntries.{Agree, agree_append, agree_sorts}
-use Rattle.moxi_script_print.proofs.AgainParts.{both_nil, first_or, rest_of}
+use Rattle.moxi_script_print.proofs.AgainParts.{both_nil, first_or}
 use Rattle.moxi_script_print.proofs.AgainSystems.{AgreeSystem}
 use Rattle.moxi_script_print.proofs.AgainUses.{AgreeUse, AgreeUses, actual_sorts}
 use Rattle.moxi_scripts.specs.laws.ListLaws.{get_right}
 use Rattle.moxi_scripts.specs.laws.WholeNames.{absent_append, is_absent, or_both}
 use Rattle.moxi_scripts.specs.laws.WholeScopes.{new_term}
+use Rattle.text_core.proofs.ListLaws.{rest_of}
 
 -- NAMES OF VARIABLES
 

@@ -38,10 +38,11 @@ use Rattle.moxi_scripts.specs.QueryReading.{names_with_named}
 use Rattle.moxi_scripts.specs.Uses as uses
 use Rattle.moxi_scripts.specs.Valid.{IsValidSubsystem, subsystem_names}
 use Rattle.moxi_script_print.proofs.AgainAttributes.{IsTail, attribute_forms, tail_end, tail_more}
-use Rattle.moxi_script_print.proofs.AgainParts.{first_or, rest_of}
+use Rattle.moxi_script_print.proofs.AgainParts.{first_or}
 use Rattle.moxi_script_print.proofs.AgainShapes.{is_attribute, is_listed, is_named, named_form}
 use Rattle.moxi_scripts.specs.laws.WholeNames.{Absent, absent_parts, fresh_first, is_absent, or_parts}
 use Rattle.moxi_scripts.specs.laws.WholeParts.{get_below}
+use Rattle.text_core.proofs.ListLaws.{rest_of}
 
 -- VARIABLES BY THEIR NUMBERS
 

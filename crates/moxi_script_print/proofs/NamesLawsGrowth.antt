@@ -20,9 +20,10 @@ use Rattle.moxi_term_print.specs.StandingGrows.{Grows, in_scope}
 use Rattle.moxi_term_print.specs.WellScopedReads.{HasSortNames}
 use Rattle.moxi_scripts.specs.Valid.{IsValidScope, before, is_fixed_sort, is_fixed_term, over}
 use Rattle.moxi_scripts.specs.laws.WholeNames.{Absent, absent_parts, fresh_first, fresh_split, is_absent, or_both, or_parts, other_way}
-use Rattle.moxi_scripts.specs.laws.WholeParts.{all_of, all_parts, map_append}
+use Rattle.moxi_scripts.specs.laws.WholeParts.{all_parts, map_append}
 use Rattle.moxi_scripts.specs.laws.WholeScopes.{term_new}
 use Rattle.moxi_scripts.proofs.WholeGrowth.{none_equal}
+use Rattle.moxi_terms.proofs.ScopeLaws.{all_of}
 
 -- a term that can appear in a scope can appear in one that has grown from it
 abbrev pub TermsStandOn : Type 0

@@ -42,7 +42,8 @@ use Rattle.moxi_scripts.specs.Systems.{SystemReading, bare_system, locals_of}
 use Rattle.moxi_scripts.specs.Uses.{actuals_in, use_among, use_headed, use_named, use_of, uses_in}
 use Rattle.moxi_script_print.proofs.NamesLaws.{ArePrintableIf, IsPrintableHeaded, IsPrintableIf, IsPrintableNamed, IsSpellableSymbol, chosen, headed_printable, list_spellable, named_printable, only_printable, parts_printable, symbol_spellable, value_printable}
 use Rattle.moxi_script_print.proofs.NamesLawsScopes.{EnumerationStays, FunctionStays, SortStays, TermNamesAreSpellable, enumeration_declares, function_declares, sort_declares}
-use Rattle.moxi_scripts.specs.laws.WholeParts.{all_append, all_map, all_of}
+use Rattle.moxi_scripts.specs.laws.WholeParts.{all_append, all_map}
+use Rattle.moxi_terms.proofs.ScopeLaws.{all_of}
 
 -- SUBSYSTEMS
 

@@ -33,8 +33,9 @@ use Rattle.moxi_scripts.specs.Script.{PlainCheck, PlainFormula, PlainScript, Pla
 use Rattle.moxi_scripts.specs.Valid.{AreFormulas, IsFormula, IsValid, IsValidCheck, IsValidSystem, over, check_variables, formula_names}
 use Rattle.moxi_script_print.specs.laws.VariableNames.{names_of_locals}
 use Rattle.moxi_script_print.proofs.NamesLawsGrowth.{StandsInAll, TermsStandOn, functions_stand, has_sort_names}
-use Rattle.moxi_scripts.specs.laws.WholeParts.{all_append, all_map, all_of, all_parts}
+use Rattle.moxi_scripts.specs.laws.WholeParts.{all_append, all_map, all_parts}
 use Rattle.moxi_term_print.proofs.StandingShown.{name_spellable}
+use Rattle.moxi_terms.proofs.ScopeLaws.{all_of}
 
 abbrev pub TermsCanBeShown : Type 0
 TermsCanBeShown = (c : Context) (bounds : List Local) (t : Tree) (s : Sort) → IsSpellableScope c.scope → AreSpellable (reading.names_of c.variables) → AreSpellable (reading.names_of bounds) → IsWellScoped c bounds t s → NamesAreSpellable t

@@ -1,12 +1,12 @@
 // Printing of scripts.
 ghost use Rattle.std.specs.Prelude.{◌≡◌, ◌≤◌, ◌++◌, ◌∷◌, [], map, IfOk, OnOk};
 ghost use Rattle.moxi_sexpr.specs.Lexing.{limit};
-ghost use Rattle.moxi_sexpr.specs.Printing.{bytes_behind};
 ghost use Rattle.moxi_term_print.specs.Shown.{lines_text, shown_depths};
 ghost use Rattle.moxi_script_print.specs.Printing.{shown_enumerations, shown_functions, shown_logic, shown_script, shown_sorts, shown_systems, system_names};
 ghost use Rattle.moxi_script_print.specs.ReadBack.{ReadsBackScript};
 ghost use Rattle.moxi_scripts.specs.Script.{plain_system};
 ghost use Rattle.moxi_scripts.specs.ScriptView.{plain_script};
+ghost use Rattle.text_core.specs.Bytes.{bytes_behind};
 
 use crate::print_checks::put_check;
 use crate::print_parts::{push, put_head};

@@ -1,10 +1,10 @@
 // Parts of printed commands: keywords, lists of variables, names by number.
 ghost use Rattle.std.specs.Prelude.{◌≡◌, ◌++◌, ◌∷◌, [], map, OnOk, IfOk};
-ghost use Rattle.moxi_sexpr.specs.Printing.{bytes_behind};
 ghost use Rattle.moxi_terms.specs.View.{plain};
 ghost use Rattle.moxi_term_print.specs.Shown.{parts_text, text_of};
 ghost use Rattle.moxi_term_print.specs.Terms.{name_at, symbol, variable_names};
 ghost use Rattle.moxi_script_print.specs.Printing.{attribute, formula_attribute, list_attribute, names_of, shown_lists, shown_names};
+ghost use Rattle.text_core.specs.Bytes.{bytes_behind};
 
 use moxi_sexpr::put_symbol;
 use moxi_term_print::{push_variable_names, put_symbols, put_term_over, put_variables};

@@ -1,11 +1,11 @@
 // Printing of systems.
 ghost use Rattle.std.specs.Prelude.{◌≡◌, ◌++◌, ◌∷◌, [], map, codes, OnOk, IfOk};
-ghost use Rattle.moxi_sexpr.specs.Printing.{bytes_behind};
 ghost use Rattle.moxi_terms.specs.View.{plain};
 ghost use Rattle.moxi_term_print.specs.Shown.{parts_text, text_of};
 ghost use Rattle.moxi_term_print.specs.Terms.{name_at};
 ghost use Rattle.moxi_script_print.specs.Printing.{attribute, names_of, shown_formulas, shown_subsystem, shown_subsystems, shown_system};
 ghost use Rattle.moxi_scripts.specs.Script.{plain_system};
+ghost use Rattle.text_core.specs.Bytes.{bytes_behind};
 
 use crate::print_parts::{
     name_in, push, push_names_of, put_formula, put_head, put_lists, put_names, variables_of,

@@ -35,9 +35,10 @@ use Rattle.moxi_scripts.proofs.WholeEntries.{entries_known, locals_known, locals
 use Rattle.moxi_scripts.proofs.WholeFormulas.{StandOn, TermsAreWellScoped, no_clash}
 use Rattle.moxi_scripts.specs.laws.WholeNames.{fresh_end}
 use Rattle.moxi_scripts.specs.laws.WholeParts.{all_append, all_parts, map_append, no_failure}
-use Rattle.moxi_scripts.specs.laws.WholeScopes.{GrowsTo, IsScopeSoFar, append_cases, grows_enumeration, grows_function, grows_on, grows_same, grows_sort, take_whole, with_enumeration_so_far, with_function_so_far, with_sort_so_far}
+use Rattle.moxi_scripts.specs.laws.WholeScopes.{GrowsTo, IsScopeSoFar, grows_enumeration, grows_function, grows_on, grows_same, grows_sort, take_whole, with_enumeration_so_far, with_function_so_far, with_sort_so_far}
 use Rattle.moxi_scripts.proofs.WholeSteps.{IsNewFunction, enumeration_cases, function_cases, function_of, sort_cases}
 use Rattle.moxi_scripts.proofs.WholeSystems.{AreUntaken, IsCheckSoFar, IsSystemSoFar, known_on, next_system, read_check}
+use Rattle.moxi_terms.proofs.ScopeLaws.{append_cases}
 
 abbrev pub SortsAreKnown : Type 0
 SortsAreKnown = (s : ScopeState) (around : Place) (t : form.Tree) → IsScope s → IfOk (sort_reading s around t) (IsSort s.enumerations)

@@ -36,7 +36,7 @@ unfolding count
 count_most p q zero f = omega arith
 count_most p q (suc n) f = let a = bit (q n) (p n) (f n) in let b = count_most p q n f in omega arith
 
-count_less : (p q : ℕ → Bool) (n x : ℕ) → ((m : ℕ) → q m ≡ true → p m ≡ true) → x < n → p x ≡ true → q x ≡ false → count q n < count p n
+pub count_less : (p q : ℕ → Bool) (n x : ℕ) → ((m : ℕ) → q m ≡ true → p m ≡ true) → x < n → p x ≡ true → q x ≡ false → count q n < count p n
 unfolding count
 count_less p q zero x f h a b = absurd (omega arith)
 count_less p q (suc n) x f h a b = by_place (eqb x n) refl (count_less p q n x f)

@@ -37,11 +37,12 @@ use Rattle.moxi_scripts.proofs.WholeEntries.{AreKnown, AreKnownLists, IsKnown, a
 use Rattle.moxi_scripts.proofs.WholeFormulas.{StandOn, TermsAreWellScoped, formula_stands}
 use Rattle.moxi_scripts.proofs.WholeLabels.{AreLabels, labels_are, nothing_labelled}
 use Rattle.moxi_scripts.specs.laws.WholeNames.{Absent, absent_is}
-use Rattle.moxi_scripts.specs.laws.WholeParts.{all_of, no_failure, not_false}
+use Rattle.moxi_scripts.specs.laws.WholeParts.{no_failure, not_false}
 use Rattle.moxi_scripts.specs.laws.WholeText.{all_fresh, locals_are}
 use Rattle.moxi_scripts.proofs.WholeQueries.{all_queries_are}
 use Rattle.moxi_scripts.specs.laws.WholeScopes.{GrowsTo, sort_stays}
 use Rattle.moxi_scripts.proofs.WholeUses.{IsUse, use_names, uses_are}
+use Rattle.moxi_terms.proofs.ScopeLaws.{all_of}
 
 -- no variable has the name of a constant or a function
 abbrev pub AreUntaken : ScopeState → List Declared → Type 0

@@ -1,13 +1,14 @@
 -- Which traces of a system behave (the shape of systems as in MoXI, SPIN 2024; traces are finite here).
-use Rattle.std.specs.Prelude.{◌≡◌, ℕ, ◌+◌, ◌<◌, true, Some, List, [], ◌∷◌, length, slice_get}
+use Rattle.std.specs.Prelude.{◌≡◌, ℕ, ◌+◌, ◌<◌, true, Some, List, [], ◌∷◌, length, slice_get, slice_index_or}
 use Rattle.moxi_terms.specs.declared.data.Sort.{Sort}
 use Rattle.moxi_terms.specs.declared.data.Datum.TheVariants.{Truth}
 use Rattle.moxi_terms.specs.declared.term.Enumeration.{Enumeration}
 use Rattle.moxi_terms.specs.Sorts.{IsOf}
 use Rattle.moxi_terms.specs.Tree.{Tree, sorts_of}
-use Rattle.moxi_terms.specs.Value.{Calls, Values, term_value}
+use Rattle.moxi_terms.specs.Value.{Calls, Values, term_value, at}
 use Rattle.moxi_scripts.specs.declared.script.Subsystem.{Subsystem}
 use Rattle.moxi_scripts.specs.Script.{PlainSystem, system_at, variables_in}
+use Rattle.moxi_terms.specs.declared.data.Datum.{Datum}
 
 -- what each variable has at each step
 abbrev pub Trace : Type 0
@@ -45,3 +46,7 @@ mutual
     no_subsystems : {trace : Trace} → EachBehaves es calls ss steps [] trace
     subsystem : {b : Subsystem} {bs : List Subsystem} {trace : Trace} (inner : Trace) → Behaves es calls ss steps b.system inner → Shares steps b.actuals trace inner
         → EachBehaves es calls ss steps bs trace → EachBehaves es calls ss steps (b ∷ bs) trace
+
+-- what the variables have at each step
+abbrev pub trace_of : List (List Datum) → Trace
+trace_of envs j = at (slice_index_or envs j [])

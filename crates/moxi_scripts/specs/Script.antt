@@ -1,5 +1,5 @@
 -- The plain form of scripts (MoXI, SPIN 2024): numbers, names and lists.
-use Rattle.std.specs.Prelude.{ℕ, List, [], ◌++◌, length, map, Option, slice_index_or}
+use Rattle.std.specs.Prelude.{ℕ, List, [], ◌++◌, length, map, Option, slice_index_or, ◌∷◌, codes, decimal}
 use Rattle.text_core.specs.declared.place.Place.{Place}
 use Rattle.moxi_terms.specs.declared.term.Variable.{Variable}
 use Rattle.moxi_terms.specs.Operators.{nothing}
@@ -83,3 +83,6 @@ plain_check c =
       reachables = map plain_formula c.reachables;
       queries = c.queries;
     }
+
+abbrev pub query_of : ℕ → Query
+query_of j = record { name = codes "q." ++ decimal j; assumptions = []; currents = []; reachables = j ∷ [] }

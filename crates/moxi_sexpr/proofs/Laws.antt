@@ -1,19 +1,18 @@
 -- What stands next is one, so what a text lexes to and its refusal are one.
-use Rattle.std.proofs.Common.{◌≡◌, ◌≢◌, ℕ, zero, suc, Bool, true, false, not, ◌&&◌, ◌||◌, ◌⊎◌, cond, eqb, ltb, Option, Some, None, List, [], ◌∷◌, ◌++◌, length, take, drop, refl, sym, ap, ◌∙◌, subst, inl, inr, arith}
+use Rattle.std.proofs.Common.{◌≡◌, ◌≢◌, ℕ, zero, suc, Bool, true, false, not, ◌&&◌, ◌||◌, ◌⊎◌, cond, eqb, ltb, Option, Some, None, List, [], ◌∷◌, ◌++◌, take, drop, refl, sym, ap, ◌∙◌, subst, inl, inr, arith}
 use Rattle.std.specs.List.{list_all}
 use Rattle.std.proofs.lemmas.Bool.{ne_eqb, lt-ltb, le-ltb, ltb-true, ltb-false, cond_both, eqb-true, eqb-false, cond-true, cond-false, and_parts}
-use Rattle.text_core.specs.declared.place.Place.{Place}
 use Rattle.text_core.specs.declared.place.Refusal.{Refusal}
 use Rattle.moxi_sexpr.specs.declared.scan.Spelling.{Spelling}
 use Rattle.moxi_sexpr.specs.declared.read.TokenKind.{TokenKind}
 use Rattle.moxi_sexpr.specs.declared.read.TokenKind.TheVariants.{Open, Close, Atom}
 use Rattle.moxi_sexpr.specs.Bytes.{is_blank, ends_line, Stops}
-use Rattle.text_core.specs.Places.{after, next_place, Reaches}
 use Rattle.moxi_sexpr.specs.Atoms.{spelled, atom_of}
 use Rattle.moxi_sexpr.specs.Lexing.{Token, token, Mark, Next, go, limit, past, IsSpelled, Steps, blank, comment, ends, unclosed, opening, too_deep, closing, unopened, atoms, stray, Lexes, last, more, Refuses, here, later}
-use Rattle.moxi_sexpr.specs.Reading.{on_some, gap_length, Scan, scan_of, value_of, token_from, token_of, nested, front, turned, behind, stands, next_of}
+use Rattle.moxi_sexpr.specs.Reading.{gap_length, Scan, scan_of, value_of, token_from, token_of, nested, front, turned, behind, stands, next_of}
 use Rattle.moxi_sexpr.proofs.Runs.{front_is}
 use Rattle.moxi_sexpr.proofs.Scanning.{Found, scan_found, spelled_read}
+use Rattle.text_core.specs.Bytes.{on_some}
 
 -- what stands next behind blanks and comments, of which one may stand open
 abbrev next_in : Bool → Mark → List ℕ → Next
@@ -214,18 +213,6 @@ one_refusal (here why a) (here why' b) e f = let x = one_next a b e f in cc
 one_refusal (here why a) (later t m r b h) e f = let x = one_next a b e f in cc
 one_refusal (later t m r a h) (here why b) e f = let x = one_next a b e f in cc
 one_refusal (later t m r a h) (later t' m' r' b h') e f = let x = one_next a b e f in let marks : m ≡ m' = cc in let rests : r ≡ r' = cc in one_refusal h h' marks rests
-
--- the place stays within its numbers
-reaches_next : (b : ℕ) (p : Place) (n : ℕ) → Reaches p (suc n) → Reaches (next_place p b) n
-reaches_next b p n h = cond_both (eqb b 10) _ _ (λ q. Reaches q n) (λ _. record { line = omega arith; column = omega arith; offset = omega arith }) (λ _. record { line = omega arith; column = omega arith; offset = omega arith })
-
-pub reaches_after : (bs : List ℕ) (p : Place) (rest : List ℕ) → Reaches p (length (bs ++ rest)) → Reaches (after p bs) (length rest)
-reaches_after [] p rest h = h
-reaches_after (b ∷ bs) p rest h = reaches_after bs (next_place p b) rest (reaches_next b p (length (bs ++ rest)) h)
-
-pub reaches_along : (text bs rest : List ℕ) (p q : Place) → text ≡ bs ++ rest → q ≡ after p bs → Reaches p (length text) → Reaches q (length rest)
-reaches_along text bs rest p q e f h =
-    subst (λ (x : Place). Reaches x (length rest)) (sym f) (reaches_after bs p rest (subst (λ (x : List ℕ). Reaches p (length x)) e h))
 
 -- a token is at the front, or the text is at its end
 pub steps_at : (m : Mark) (text : List ℕ) (b : ℕ) (bs : List ℕ) (x : Next) → text ≡ b ∷ bs → is_blank b ≡ false → eqb b 59 ≡ false → stands m text ≡ x → Steps m text x

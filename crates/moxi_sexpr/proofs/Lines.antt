@@ -1,5 +1,5 @@
 -- The place behind a token that neither a bar nor a quote begins: it is in one line.
-use Rattle.std.proofs.Common.{◌≡◌, ◌-◌, ◌≤◌, ◌<◌, ◌+◌, ℕ, zero, suc, Bool, true, false, not, eqb, Option, Some, None, List, [], ◌∷◌, ◌++◌, length, take, drop, get_or, refl, eq-eqb, sym, ap, ◌∙◌, subst, arith}
+use Rattle.std.proofs.Common.{◌≡◌, ◌-◌, ◌≤◌, ◌<◌, ◌+◌, ℕ, zero, suc, Bool, true, false, eqb, Option, Some, None, List, [], ◌∷◌, ◌++◌, length, take, drop, get_or, refl, eq-eqb, sym, ap, ◌∙◌, subst, arith}
 use Rattle.std.specs.Prelude.{IsTrue}
 use Rattle.std.specs.List.{list_all}
 use Rattle.std.proofs.lemmas.List.{length-take}
@@ -9,34 +9,21 @@ use Rattle.text_core.specs.declared.place.Place.{Place}
 use Rattle.moxi_sexpr.specs.declared.scan.Spelling.{Spelling}
 use Rattle.moxi_sexpr.specs.declared.scan.Spelling.TheVariants as how
 use Rattle.moxi_sexpr.specs.declared.read.TokenKind.{TokenKind}
-use Rattle.text_core.specs.Bytes.{is_digit}
-use Rattle.moxi_sexpr.specs.Bytes.{is_symbol_byte, is_binary_digit, is_hex_digit, is_comment_byte, heads}
-use Rattle.text_core.specs.Places.{next_place, after, start}
+use Rattle.text_core.specs.Bytes.{is_digit, heads}
+use Rattle.moxi_sexpr.specs.Bytes.{is_symbol_byte, is_binary_digit, is_hex_digit, is_comment_byte}
+use Rattle.text_core.specs.Places.{next_place, after, start, along}
 use Rattle.moxi_sexpr.specs.Atoms.{prime, may_appear, spelled}
 use Rattle.moxi_sexpr.specs.Reading.{run_length, line_ends, last_line, Scan, scan_of, value_of, token_from, token_of, front}
 use Rattle.moxi_sexpr.proofs.Runs.{other_byte, run_all, simple_all, run_passes, front_is}
 use Rattle.moxi_sexpr.proofs.Scanning.{Found, scan_found}
-
-abbrev is_inner : ℕ → Bool
-is_inner b = not (eqb b 10)
-
--- no byte ends the line
-abbrev IsInLine : List ℕ → Type 0
-IsInLine bs = list_all is_inner bs ≡ true
+use Rattle.text_core.proofs.PlaceLaws.{is_inner, IsInLine}
+use Rattle.text_core.proofs.Truths.{not_true}
 
 abbrev pub placed : ℕ → ℕ → ℕ → Place
 placed line column offset = record { line = line; column = column; offset = offset }
 
--- the place so many bytes along the line
-abbrev pub along : Place → ℕ → Place
-along p n = record { line = p.line; column = p.column + n; offset = p.offset + n }
-
 same_place : (line c d o u : ℕ) → c ≡ d → o ≡ u → placed line c o ≡ placed line d u
 same_place line c d o u e f = ap (λ x. placed line x o) e ∙ ap (placed line d) f
-
-no_end : (t : Bool) → not t ≡ true → t ≡ false
-no_end true e = absurd (let g : false ≡ true = e in cc)
-no_end false e = refl
 
 any_place : (l m c d o u : ℕ) → l ≡ m → c ≡ d → o ≡ u → placed l c o ≡ placed m d u
 any_place l m c d o u e f g = ap (λ x. placed x c o) e ∙ same_place m c d o u f g
@@ -45,7 +32,7 @@ after_line : (bs : List ℕ) (p : Place) → IsInLine bs → after p bs ≡ alon
 after_line [] p e = same_place p.line p.column (p.column + 0) p.offset (p.offset + 0) (omega arith) (omega arith)
 after_line (b ∷ bs) p e =
     let both = and_parts (is_inner b) (list_all is_inner bs) e in
-    let here : next_place p b ≡ along p 1 = cond-false _ _ _ (no_end (eqb b 10) both.0) in
+    let here : next_place p b ≡ along p 1 = cond-false _ _ _ (not_true (eqb b 10) both.0) in
     ap (λ q. after q bs) here ∙ after_line bs (along p 1) both.1
     ∙ same_place p.line (p.column + 1 + length bs) (p.column + length (b ∷ bs)) (p.offset + 1 + length bs) (p.offset + length (b ∷ bs)) (omega arith) (omega arith)
 

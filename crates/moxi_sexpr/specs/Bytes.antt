@@ -1,12 +1,9 @@
 -- Bytes by what they may appear in (SMT-LIB 2.6, section 3.1).
 use Rattle.std.specs.Prelude.{◌≡◌, ◌==◌, ℕ, Bool, false, not, ◌&&◌, ◌||◌, nat_le, List, [], ◌∷◌, codes}
 use Rattle.std.specs.List.{list_any}
-use Rattle.text_core.specs.Bytes.{is_digit}
+use Rattle.text_core.specs.Bytes.{is_digit, is_letter}
 use Rattle.moxi_sexpr.specs.declared.bytes.ByteSet.{ByteSet}
 use Rattle.moxi_sexpr.specs.declared.bytes.ByteSet.TheVariants as set
-
-abbrev pub is_letter : ℕ → Bool
-is_letter b = (nat_le 65 b && nat_le b 90) || (nat_le 97 b && nat_le b 122)
 
 -- the signs of a simple symbol
 abbrev pub is_sign : ℕ → Bool
@@ -44,11 +41,6 @@ belongs set.Binary b = is_binary_digit b
 belongs set.Hexadecimal b = is_hex_digit b
 belongs set.Barred b = is_barred_byte b
 belongs set.Comment b = is_comment_byte b
-
--- the text begins with this byte
-abbrev pub heads : ℕ → List ℕ → Bool
-heads c [] = false
-heads c (b ∷ bs) = b == c
 
 -- the first byte of the text, if there is one, fails the test
 abbrev pub Stops : (ℕ → Bool) → List ℕ → Type 0

@@ -2,7 +2,6 @@
 use Rattle.std.specs.Prelude.{◌≡◌, ℕ, Bool, not, ◌&&◌, if◌then◌else◌, List, [], ◌∷◌, ◌++◌, codes}
 use Rattle.std.specs.List.{list_any}
 use Rattle.std.specs.Str.{bytes_eq}
-use Rattle.std.specs.Borrow.{Bor}
 use Rattle.std.specs.Prelude.{IsTrue}
 use Rattle.moxi_sexpr.specs.declared.form.Atom.{Atom}
 use Rattle.moxi_sexpr.specs.declared.form.Atom.TheVariants as atoms
@@ -20,9 +19,6 @@ reserved_words =
 -- the name is one of the words
 abbrev pub is_among : List ℕ → List (List ℕ) → Bool
 is_among name words = list_any (λ word. bytes_eq name word) words
-
-abbrev pub bytes_behind : Bor (List ℕ) → List ℕ
-bytes_behind word = word.now
 
 -- a symbol is printed in bars unless it is simple and no reserved word
 abbrev pub symbol_spelling : List ℕ → Bool → Spelling

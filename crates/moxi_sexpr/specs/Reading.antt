@@ -6,14 +6,10 @@ use Rattle.moxi_sexpr.specs.declared.scan.Spelling.{Spelling}
 use Rattle.moxi_sexpr.specs.declared.scan.Spelling.TheVariants as how
 use Rattle.moxi_sexpr.specs.declared.read.TokenKind.{TokenKind}
 use Rattle.moxi_sexpr.specs.declared.read.TokenKind.TheVariants.{Open, Close, Atom}
-use Rattle.text_core.specs.Bytes.{is_digit}
-use Rattle.moxi_sexpr.specs.Bytes.{is_symbol_byte, is_binary_digit, is_hex_digit, is_barred_byte, is_blank, ends_line, heads}
+use Rattle.text_core.specs.Bytes.{is_digit, heads, on_some}
+use Rattle.moxi_sexpr.specs.Bytes.{is_symbol_byte, is_binary_digit, is_hex_digit, is_barred_byte, is_blank, ends_line}
 use Rattle.moxi_sexpr.specs.Atoms.{starts_simple, atom_of}
 use Rattle.moxi_sexpr.specs.Lexing.{Mark, Next, finished, go, bad, limit, refusal, past, token}
-
-abbrev pub on_some : {A : Type 0} → Option A → ℕ → (A → ℕ) → ℕ
-on_some None n f = n
-on_some (Some x) n f = f x
 
 -- whether a byte goes on with blanks and comments, and whether a comment stands open behind it
 abbrev pub gap_step : Bool → ℕ → Option Bool

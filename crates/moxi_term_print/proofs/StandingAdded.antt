@@ -7,12 +7,12 @@ use Rattle.moxi_terms.specs.Tree.{PlainFunction}
 use Rattle.moxi_terms.specs.View.{ScopeState}
 use Rattle.moxi_terms.specs.Names.{is_among, enumeration_names, sort_names, function_names, all_constants, is_sort_name, may_be_constants, may_be_enumeration, with_enumeration, with_function}
 use Rattle.name_maps.specs.Names.{place_of, are_fresh}
-use Rattle.moxi_term_reading.specs.laws.AllLaws.{all_append}
 use Rattle.moxi_term_print.specs.WellScopedReads.{HasSortNames}
 use Rattle.moxi_term_print.specs.StandingNames.{IsSpellable, AreSpellable, IsSpellableScope}
 use Rattle.moxi_term_print.specs.laws.StandingPlaces.{same_bytes}
 use Rattle.moxi_term_print.proofs.StandingGrow.{constants_append, names_append, not_among}
 use Rattle.moxi_term_print.proofs.StandingScopes.{opposite, or_neither, neither_or, none_among, among_neither, enumerations_append}
+use Rattle.text_core.proofs.ListLaws.{all_append}
 
 -- SORTS' NAMES
 

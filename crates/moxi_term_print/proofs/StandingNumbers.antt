@@ -1,10 +1,9 @@
 -- Numerals and the binary digits of words spell what they are printed from.
-use Rattle.std.proofs.Common.{◌≡◌, ℕ, zero, suc, ◌+◌, ◌-◌, ◌*◌, ◌/◌, ◌%◌, ◌<◌, ◌≤◌, ◌^◌, ◌&&◌, ◌⊎◌, Bool, true, false, cond, ltb, leb, nat_lt, nat_le, List, [], ◌∷◌, ◌++◌, length, Option, Some, None, refl, sym, ap, ◌∙◌, subst, arith, rules, inl, inr}
+use Rattle.std.proofs.Common.{◌≡◌, ℕ, zero, suc, ◌+◌, ◌-◌, ◌*◌, ◌/◌, ◌%◌, ◌<◌, ◌≤◌, ◌^◌, ◌&&◌, Bool, true, ltb, leb, nat_lt, nat_le, List, [], ◌∷◌, ◌++◌, length, Some, refl, ap, ◌∙◌, arith, rules}
 use Rattle.std.specs.Prelude.{option_and_then}
 use Rattle.std.specs.Fmt.{decimal}
 use Rattle.std.proofs.lemmas.Bool.{cond-true, lt-ltb, le-leb, and_parts, and_from}
 use Rattle.std.proofs.lemmas.Bool.Decides.{nat_tests}
-use Rattle.std.proofs.lemmas.List.{length_push}
 use Rattle.std.proofs.lemmas.Str.Parse.{IsNumeralModel, numerals_by_fold}
 use Rattle.std.proofs.lemmas.Fmt.{digits_decimal, digits_value-decimal, decimal_nonempty}
 use Rattle.text_core.specs.Binary.{binary_digits}
@@ -16,61 +15,10 @@ use Rattle.moxi_sexpr.specs.Atoms.{is_run}
 use Rattle.text_core.specs.Bytes.{is_digit}
 use Rattle.moxi_sexpr.specs.Bytes.{is_binary_digit}
 use Rattle.moxi_term_reading.specs.SortReading.{index_of, number_or_most}
+use Rattle.word_core.proofs.BinaryDigits.{digit_fact, digits_long, number_back}
+use Rattle.text_core.proofs.Numerals.{all_digits, value_after}
 
 -- BINARY DIGITS
-
-bit_cases : (n : ℕ) → (n % 2 ≡ 0) ⊎ (n % 2 ≡ 1)
-bit_cases n = below_two (n % 2) (omega arith)
-  where
-    below_two : (d : ℕ) → d < 2 → (d ≡ 0) ⊎ (d ≡ 1)
-    below_two zero h = inl refl
-    below_two (suc zero) h = inr refl
-    below_two (suc (suc d)) h = absurd (omega (arith, h))
-
-digit_fact : (P : ℕ → Type 0) (n : ℕ) → P 48 → P 49 → P (48 + n % 2)
-digit_fact P n a b = elim (bit_cases n) [ inl z ↦ subst (λ d. P (48 + d)) (sym z) a | inr o ↦ subst (λ d. P (48 + d)) (sym o) b ]
-
-digit_is : (n : ℕ) → digit_number (48 + n % 2) ≡ n % 2
-digit_is n = elim (bit_cases n) [ inl z ↦ subst (λ d. digit_number (48 + d) ≡ d) (sym z) refl | inr o ↦ subst (λ d. digit_number (48 + d) ≡ d) (sym o) refl ]
-
-pub digits_long : (w n : ℕ) → length (binary_digits w n) ≡ w
-unfolding binary_digits
-digits_long zero n = refl
-digits_long (suc w) n = let e = length_push (binary_digits w (n / 2)) (48 + n % 2) in omega (arith, e, digits_long w (n / 2))
-
--- one more digit behind those before
-one_behind : (d : ℕ) → ℕ → Option ℕ
-one_behind d m = cond (ltb (digit_number d) 2) (Some (m * 2 + digit_number d)) None
-
-unfold_behind : (d m : ℕ) → cond (ltb (digit_number d) 2) (number_after 2 (m * 2 + digit_number d) []) None ≡ one_behind d m
-unfolding one_behind
-unfold_behind d m = refl
-
-number_push : (xs : List ℕ) (d m : ℕ) → number_after 2 m (xs ++ d ∷ []) ≡ option_and_then (one_behind d) (number_after 2 m xs)
-number_push [] d m = unfold_behind d m
-number_push (x ∷ xs) d m =
-    choice _ _ (ltb (digit_number x) 2) (number_push xs d (m * 2 + digit_number x))
-  where
-    choice : (o p : Option ℕ) (b : Bool) → o ≡ option_and_then (one_behind d) p → cond b o None ≡ option_and_then (one_behind d) (cond b p None)
-    choice o p true e = e
-    choice o p false e = refl
-
-behind_is : (n m : ℕ) → one_behind (48 + n % 2) m ≡ Some (m * 2 + n % 2)
-unfolding one_behind
-behind_is n m =
-    cond-true (ltb (digit_number (48 + n % 2)) 2) _ _ (digit_fact (λ b. ltb (digit_number b) 2 ≡ true) n refl refl) ∙ ap (λ d. Some (m * 2 + d)) (digit_is n)
-
-half_small : (w n : ℕ) → n < 2 ^ suc w → n / 2 < 2 ^ w
-half_small w n h = omega (arith, h)
-
-number_back : (w n : ℕ) → n < 2 ^ w → number_after 2 0 (binary_digits w n) ≡ Some n
-unfolding binary_digits
-number_back zero n h = let z : 0 ≡ n = omega (arith, h) in ap Some z
-number_back (suc w) n h =
-    let whole : n / 2 * 2 + n % 2 ≡ n = omega arith in
-    number_push (binary_digits w (n / 2)) (48 + n % 2) 0
-    ∙ ap (option_and_then (one_behind (48 + n % 2))) (number_back w (n / 2) (half_small w n h))
-    ∙ behind_is n (n / 2) ∙ ap Some whole
 
 value_of_some : (base : ℕ) (xs : List ℕ) → 0 < length xs → digits_value base xs ≡ number_after base 0 xs
 value_of_some base [] h = absurd (omega (arith, h))
@@ -93,14 +41,6 @@ word_again c h =
     ∙ read_back 2 c.width c.bits digits h.0 h.1 h.2 (value_of_some 2 digits some ∙ number_back c.width c.bits h.2)
 
 -- NUMERALS
-
-abbrev all_digits : List ℕ → Bool
-all_digits [] = true
-all_digits (b ∷ bs) = is_digit b && all_digits bs
-
-abbrev value_after : ℕ → List ℕ → ℕ
-value_after n [] = n
-value_after n (b ∷ bs) = value_after (10 * n + (b - 48)) bs
 
 numeral_model : IsNumeralModel (λ ds. all_digits ds ≡ true) (value_after 0)
 numeral_model = numerals_by_fold _ (search rules) value_after (search rules)

@@ -54,6 +54,7 @@ use Rattle.moxi_term_reading.specs.laws.SortedParts.{some_fails, none_in, stays,
 use Rattle.moxi_term_print.specs.Terms.{name_at, constants_or_none, constant_name, operator_word, truth_word}
 use Rattle.moxi_term_print.specs.WellScoped.{bound_locals, IsAllowedPrime, IsKnownOperator, IsWellScopedCall, IsWellScoped, AreWellScoped}
 use Rattle.moxi_term_print.specs.WellScopedReads.{IsWellScopedReading}
+use Rattle.text_core.proofs.ListLaws.{no_length}
 
 -- NAMES THAT ARE FOUND
 
@@ -264,10 +265,6 @@ module _ (c : Context) (vars : List Sort) (of_vars : HaveKnownSorts c.variables 
       by_word true b e f = (refl, sym ((bytes_eq-Decides name (codes "true")).0 e))
       by_word false true e f = (refl, sym ((bytes_eq-Decides name (codes "false")).0 f))
       by_word false false e f = constant_fits ls name (place_of (all_constants c.scope.enumerations) name) refl
-
-  no_length : {X Y : Type 0} (g : X → Y) (xs : List X) → eqb (length xs) 0 ≡ true → map g xs ≡ []
-  no_length g [] h = refl
-  no_length g (x ∷ xs) h = absurd (grind (arith, nat_tests))
 
   function_at : (name : List ℕ) (fs : List PlainFunction) (n : ℕ) (f : PlainFunction) → slice_get fs n ≡ Some f → slice_get (map (λ (f : PlainFunction). f.name) fs) n ≡ Some name → f.name ≡ name
   function_at name [] n f h g = absurd (none-some f h)

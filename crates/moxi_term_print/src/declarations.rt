@@ -1,9 +1,9 @@
 // Printing of declarations.
 ghost use Rattle.std.specs.Prelude.{◌≡◌, ◌++◌, ◌∷◌, [], map, OnOk};
-ghost use Rattle.moxi_sexpr.specs.Printing.{bytes_behind};
 ghost use Rattle.moxi_terms.specs.View.{plain_function};
 ghost use Rattle.moxi_term_print.specs.Shown.{parts_text, text_of};
 ghost use Rattle.moxi_term_print.specs.Declarations.{shown_enumeration, shown_function, shown_named_sort, shown_symbols};
+ghost use Rattle.text_core.specs.Bytes.{bytes_behind};
 
 use crate::sorts::{put_sort, put_variables};
 use crate::terms::put_term;

@@ -1,12 +1,12 @@
 // Printing of terms.
 ghost use Rattle.std.specs.Prelude.{◌≡◌, ◌++◌, ◌∷◌, if◌then◌else◌, [], map, take, length, OnOk};
-ghost use Rattle.moxi_sexpr.specs.Printing.{bytes_behind};
 ghost use Rattle.moxi_terms.specs.Names.{function_names};
 ghost use Rattle.moxi_terms.specs.Tree.{trees_of};
 ghost use Rattle.moxi_terms.specs.View.{plain};
 ghost use Rattle.moxi_term_print.specs.Shown.{parts_text, text_of};
 ghost use Rattle.moxi_term_print.specs.Bindings.{shown_binding};
 ghost use Rattle.moxi_term_print.specs.Terms.{name_at, shown_bindings, shown_call, shown_term, shown_terms, variable_names};
+ghost use Rattle.text_core.specs.Bytes.{bytes_behind};
 
 use crate::named::function_name;
 use crate::operators::put_head;

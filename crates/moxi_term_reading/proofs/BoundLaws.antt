@@ -7,7 +7,7 @@ use Rattle.moxi_term_reading.specs.declared.locals.Local.{Local}
 use Rattle.moxi_term_reading.specs.Forms.{symbol_of}
 use Rattle.moxi_term_reading.specs.Reading.{Context, Reading, binding_of, read, read_binding, read_bindings}
 
-nodes_some : (t : Tree) → 1 ≤ nodes t
+pub nodes_some : (t : Tree) → 1 ≤ nodes t
 nodes_some (atom p a) = omega arith
 nodes_some (list p ts) = let g : 1 ≤ suc (all_nodes ts) = omega arith in g
 

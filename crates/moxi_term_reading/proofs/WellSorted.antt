@@ -1,9 +1,8 @@
 -- A form of which no test fails spells a term that has its sort, by induction over the form.
-use Rattle.std.proofs.Common.{◌≡◌, ℕ, ◌+◌, Bool, true, false, cond, eqb, List, [], ◌∷◌, ◌++◌, map, length, Option, None, Some, Result, Ok, Err, refl, sym, ap, ◌∙◌, subst, arith}
+use Rattle.std.proofs.Common.{◌≡◌, ℕ, ◌+◌, Bool, true, false, cond, eqb, List, [], ◌∷◌, ◌++◌, length, Option, None, Some, Result, Ok, Err, refl, sym, ap, ◌∙◌, subst, arith}
 use Rattle.std.specs.Prelude.{slice_get, codes, option_and_then, ◌*◌}
 use Rattle.std.specs.Option.{option_map}
 use Rattle.std.specs.Str.{bytes_eq}
-use Rattle.std.proofs.lemmas.Bool.Decides.{nat_tests}
 use Rattle.text_core.specs.declared.place.Place.{Place}
 use Rattle.text_core.specs.declared.place.Refusal.{Refusal}
 use Rattle.word_core.specs.Words.{BitVector}
@@ -41,6 +40,7 @@ use Rattle.moxi_term_reading.specs.Answer.{IsRead}
 use Rattle.moxi_term_reading.specs.WellSorted.{HaveKnownSorts, IsTerm, IsWellSorted, IsSortedTerm}
 use Rattle.moxi_term_reading.specs.laws.Least.{least_none}
 use Rattle.moxi_term_reading.specs.laws.SortedParts.{some_fails, none_in, stays, FoundIn, first_found, last_found, known_append, all_have_sorts, names_long, constant_is, read_is_word, tests_hold, call_fits, head_fails}
+use Rattle.text_core.proofs.ListLaws.{no_length}
 
 module _ (c : Context) (vars : List Sort) (of_vars : HaveKnownSorts c.variables vars) where
   checked_sorted : (ss : List Sort) (t : Tree) (s : Option Sort) (fs : List Refusal) (sort : Sort) → fs ≡ [] → s ≡ Some sort
@@ -86,10 +86,6 @@ module _ (c : Context) (vars : List Sort) (of_vars : HaveKnownSorts c.variables 
       by_true true b = tt
       by_true false true = tt
       by_true false false = constant_fits ss (place_of (all_constants c.scope.enumerations) name)
-
-  no_length : {X Y : Type 0} (g : X → Y) (xs : List X) → eqb (length xs) 0 ≡ true → map g xs ≡ []
-  no_length g [] h = refl
-  no_length g (x ∷ xs) h = absurd (grind (arith, nat_tests))
 
   call_named : (ss : List Sort) (o : Option ℕ) → Fits ss (meanings.call_of meanings.bare_call c.scope.functions o)
   call_named ss None = tt

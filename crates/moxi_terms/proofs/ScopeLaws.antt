@@ -29,7 +29,7 @@ all_end : {A : Type 0} (P : A → Type 0) (xs : List A) (x : A) → AllByRecursi
 all_end P [] x a p = (p, tt)
 all_end P (y ∷ ys) x a p = (a.0, all_end P ys x a.1 p)
 
-all_of : {A : Type 0} (P Q : A → Type 0) (xs : List A) → ((x : A) → P x → Q x) → AllByRecursion P xs → AllByRecursion Q xs
+pub all_of : {A : Type 0} (P Q : A → Type 0) (xs : List A) → ((x : A) → P x → Q x) → AllByRecursion P xs → AllByRecursion Q xs
 all_of P Q [] f a = tt
 all_of P Q (x ∷ xs) f a = (f x a.0, all_of P Q xs f a.1)
 

@@ -13,3 +13,4 @@ pub mod Scopes
 pub mod Meanings
 pub mod Evaluated
 pub mod Cost
+pub mod Applications

@@ -3,8 +3,5 @@ use Rattle.std.specs.Prelude.{ℕ, List}
 use Rattle.std.specs.Borrow.{Bor}
 use Rattle.moxi_terms.specs.declared.data.TermOp.{TermOp}
 
-abbrev pub bytes_behind : Bor (List ℕ) → List ℕ
-bytes_behind word = word.now
-
 abbrev pub row : Bor (List ℕ) × TermOp → List ℕ × TermOp
 row r = (r.0.now, r.1)

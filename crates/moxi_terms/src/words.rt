@@ -1,7 +1,8 @@
 // The names of operators, and the names of unsupported operators and sorts.
 ghost use Rattle.std.specs.Prelude.{◌≡◌, ◌||◌, map};
 ghost use Rattle.moxi_terms.specs.Words.{begins_so, may_begin, indexed_operators, is_one_of, is_operator, left_out_operators, left_out_sorts, operator_named, row_named};
-ghost use Rattle.moxi_terms.specs.Rows.{bytes_behind, row};
+ghost use Rattle.moxi_terms.specs.Rows.{row};
+ghost use Rattle.text_core.specs.Bytes.{bytes_behind};
 
 use crate::data::TermOp;
 use text_core::is_same;

@@ -137,7 +137,7 @@ paired_can b w k lines (x ∷ xs) a room =
       paired_can b w k n.0 xs (later_pairs lines n.0 xs w (binary_grows b lines x.0 x.1) a.1) room,
     )
 
-and_keeps : Keeps two.And 1
+pub and_keeps : Keeps two.And 1
 and_keeps = record { fits = refl; width = refl }
 
 pub comparison_wide : (b : Binary) (w : ℕ) → Compares b w → (lines : List Line) (xs : List (ℕ × ℕ)) → 1 ≤ length xs → PairsAreWide lines xs w → IsWide (compared_lines b lines xs).0 (compared_lines b lines xs).1 1

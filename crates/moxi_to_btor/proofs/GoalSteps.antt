@@ -17,14 +17,14 @@ use Rattle.moxi_lines.proofs.Growing.{grown_long, grown_none, grown_then}
 use Rattle.moxi_lines.proofs.Chains.{binary_grows, chain_grows}
 use Rattle.moxi_to_btor.specs.TermPutting.{CanChain, CanPutBinary}
 use Rattle.moxi_to_btor.proofs.Widths.{IsWide, binary_can, binary_wide, later_wide}
-use Rattle.moxi_to_btor.proofs.ChainWidths.{chain_can, chain_wide}
+use Rattle.moxi_to_btor.proofs.ChainWidths.{chain_can, chain_wide, and_keeps}
 use Rattle.moxi_lines.specs.Lines.{Reaching, has_conditions, with_all_met, with_conditions, with_formula, with_goal, with_one_met, with_queries, with_query, with_reachables}
 use Rattle.moxi_lines.proofs.Extending.{Extends, extends_long, extends_none, extends_then, quietly}
 use Rattle.moxi_to_btor.specs.Putting.{CanPutTruth}
 use Rattle.moxi_to_btor.specs.Queries.{AreTruths, CanPutAllMet, CanPutConditions, CanPutGoal, CanPutNumbered, CanPutOneMet, CanPutQueries, CanPutQuery, CanPutReachables, CanPutSeveral, IsReady, reaching, whole_goal}
 use Rattle.moxi_to_btor.proofs.PartSteps.{formula_grows, formula_wide}
 use Rattle.moxi_to_btor.proofs.ConditionSteps.{conditions_extend, conditions_wide, ready_later, truth_at}
-use Rattle.moxi_to_btor.proofs.QuerySteps.{all_reached, and_keeps, formulas_long, or_keeps, reachables_extend, seen_long, truth_wide, truths_append, truths_later, truths_wide}
+use Rattle.moxi_to_btor.proofs.QuerySteps.{all_reached, formulas_long, or_keeps, reachables_extend, seen_long, truth_wide, truths_append, truths_later, truths_wide}
 
 -- ---- all formulas
 

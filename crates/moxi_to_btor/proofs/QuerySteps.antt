@@ -39,9 +39,6 @@ pub truths_append : (lines : List Line) (ps qs : List ℕ) → AreTruths lines p
 truths_append lines [] qs a b = b
 truths_append lines (p ∷ ps) qs a b = (a.0, truths_append lines ps qs a.1 b)
 
-pub and_keeps : Keeps two.And 1
-and_keeps = record { fits = refl; width = refl }
-
 pub or_keeps : Keeps two.Or 1
 or_keeps = record { fits = refl; width = refl }
 

@@ -19,14 +19,7 @@ use Rattle.moxi_terms.specs.Sorts.{IsOf, IsConstant}
 use Rattle.moxi_trace.specs.declared.tokens.Shape.{Shape}
 use Rattle.moxi_trace.specs.declared.tokens.Shape.TheVariants as shape
 use Rattle.moxi_trace.specs.Values.{if_same, constant_named, constant_of, symbol_value, word_value, value_of}
-
-cond_some : {X : Type 0} (b : Bool) (o : Option X) (v : X) → cond b o None ≡ Some v → (b ≡ true) × (o ≡ Some v)
-cond_some true o v h = (refl, h)
-cond_some false o v h = absurd (none-some v h)
-
-then_some : {X Y : Type 0} (f : X → Option Y) (o : Option X) (v : Y) → option_and_then f o ≡ Some v → (x : X) × (f x ≡ Some v) × (o ≡ Some x)
-then_some f None v h = absurd (none-some v h)
-then_some f (Some x) v h = (x, h, refl)
+use Rattle.text_core.proofs.Truths.{cond_some, then_some}
 
 map_some : {X Y : Type 0} (f : X → Y) (o : Option X) (v : Y) → option_map f o ≡ Some v → (x : X) × (f x ≡ v) × (o ≡ Some x)
 map_some f None v h = absurd (none-some v h)

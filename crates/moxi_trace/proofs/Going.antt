@@ -11,8 +11,9 @@ use Rattle.moxi_trace.specs.declared.point.Point.TheVariants as point
 use Rattle.moxi_trace.specs.declared.tokens.Shape.{Shape}
 use Rattle.moxi_trace.specs.Traces.{Declared}
 use Rattle.moxi_trace.specs.Tokens.{token_of}
-use Rattle.moxi_trace.specs.Reading.{Reading, go_on, settled_by, on_line, is_head_token, past_head, point_step, token_step, step}
+use Rattle.moxi_trace.specs.Reading.{Reading, settled_by, on_line, is_head_token, past_head, point_step, token_step, step}
 use Rattle.moxi_trace.specs.Responses.{behind, token_read, byte_read, read_from}
+use Rattle.text_core.specs.Answers.{go_on}
 
 -- where the reading stands but for places: what comes next, the query, what is stated, and the steps
 pub record Standing : Type 0 where

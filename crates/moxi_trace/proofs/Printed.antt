@@ -12,7 +12,7 @@ use Rattle.moxi_trace.specs.declared.tokens.Shape.TheVariants as shape
 use Rattle.moxi_trace.specs.Traces.{Declared, IsStatedTrace, is_within, most_bytes}
 use Rattle.moxi_trace.specs.Texts.{symbol_text, steps_text, words_of_response, words_of_query, words_of_result, words_of_trace, head_text, response_text}
 use Rattle.moxi_trace.specs.ReadBack.{CanBeReadBack, ReadsBack}
-use Rattle.moxi_trace.specs.Reading.{go_on, at_point, with_failing, query_named, nothing_stated, ended, finished, begin}
+use Rattle.moxi_trace.specs.Reading.{at_point, with_failing, query_named, nothing_stated, ended, finished, begin}
 use Rattle.moxi_trace.specs.Responses.{read_from, answered, ReadsResponse}
 use Rattle.moxi_trace.proofs.Spelled.{blank_parts}
 use Rattle.moxi_trace.proofs.Going.{Spot, reading, Goes, goes_then, Leads, goes_blank, line_on}
@@ -20,6 +20,7 @@ use Rattle.moxi_trace.proofs.Head.{here, first_words, query_words, result_words,
 use Rattle.moxi_trace.proofs.Trail.{goes_symbol}
 use Rattle.moxi_trace.proofs.Stepping.{goes_close, goes_steps}
 use Rattle.moxi_term_print.specs.Terms.{name_at}
+use Rattle.text_core.specs.Answers.{go_on}
 
 names_system : (d : Declared) (q : ℕ) → Leads d shape.Symbol d.system (here point.System q (nothing_stated d.variables) []) (here (point.Head 2) q (nothing_stated d.variables) [])
 names_system d q s =

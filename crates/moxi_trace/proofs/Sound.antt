@@ -9,7 +9,6 @@ use Rattle.std.proofs.lemmas.List.{length-append}
 use Rattle.std.proofs.lemmas.List.Quantifiers.{position-Some}
 use Rattle.std.proofs.lemmas.Option.{same_Some, none-some}
 use Rattle.text_core.specs.declared.place.Place.{Place}
-use Rattle.text_core.specs.declared.place.Refusal.{Refusal}
 use Rattle.text_core.specs.declared.end.End.{End}
 use Rattle.text_core.specs.Places.{start, next_place}
 use Rattle.name_maps.specs.Names.{place_of}
@@ -30,33 +29,14 @@ use Rattle.moxi_trace.specs.declared.tokens.Shape.TheVariants as shape
 use Rattle.moxi_trace.specs.Traces.{Declared, names_of, is_within, most_bytes}
 use Rattle.moxi_trace.specs.Tokens.{Scan, token_of}
 use Rattle.moxi_trace.specs.Values.{value_of}
-use Rattle.moxi_trace.specs.Reading.{Reading, go_on, refused, at_point, first_of, with_failing, settled_by, on_line, is_head_token, past_head, head_step, is_symbol, symbol_step, system_named, query_named, close_step, step_begun, steps_step, is_numeral, is_number, number_step, nothing_stated, lacks, values_of, tested, with_step, statements_step, is_stated, variable_named, variable_step, is_bracket, value_at, with_value, value_read, value_step, any_step, point_step, token_step, step, stray, is_whole, is_empty, ended, finished, begin}
+use Rattle.moxi_trace.specs.Reading.{Reading, at_point, first_of, with_failing, settled_by, on_line, is_head_token, past_head, head_step, is_symbol, symbol_step, system_named, query_named, close_step, step_begun, steps_step, is_numeral, is_number, number_step, nothing_stated, lacks, values_of, tested, with_step, statements_step, is_stated, variable_named, variable_step, is_bracket, value_at, with_value, value_read, value_step, any_step, point_step, token_step, step, stray, is_whole, ended, finished, begin}
 use Rattle.moxi_trace.specs.Responses.{Passing, behind, token_read, byte_read, answered, read_from, response_of, IsStatedResponse}
-use Rattle.moxi_trace.specs.Answer.{Answers}
 use Rattle.moxi_trace.proofs.Fits.{value_fits}
+use Rattle.text_core.specs.Bytes.{is_empty}
+use Rattle.text_core.specs.Answers.{refused, Answers}
+use Rattle.text_core.proofs.AnswerLaws.{go_on_ok, taken, passed_by, none_refused, same_ok}
 
 -- ---- results
-
-go_on_ok : {A B : Type 0} (o : Result A Refusal) (f : A → Result B Refusal) (y : B) → go_on o f ≡ Ok y → (x : A) × (o ≡ Ok x) × (f x ≡ Ok y)
-go_on_ok (Ok x) f y e = (x, refl, e)
-go_on_ok (Err refusal) f y e = absurd (let g : Err refusal ≡ Ok y = e in cc)
-
-taken : {A : Type 0} (b : Bool) (o : Result A Refusal) (n : ℕ) (at : Place) (y : A) → cond b o (refused n at) ≡ Ok y → (b ≡ true) × (o ≡ Ok y)
-taken true o n at y e = (refl, e)
-taken false o n at y e = absurd (let g : refused n at ≡ Ok y = e in cc)
-
-passed_by : {A : Type 0} (b : Bool) (o : Result A Refusal) (n : ℕ) (at : Place) (y : A) → cond b (refused n at) o ≡ Ok y → (b ≡ false) × (o ≡ Ok y)
-passed_by true o n at y e = absurd (let g : refused n at ≡ Ok y = e in cc)
-passed_by false o n at y e = (refl, e)
-
-none_refused : {A : Type 0} (n : ℕ) (at : Place) (y : A) → refused n at ≡ Ok y → ⊥
-none_refused n at y e = cc
-
-abbrev done : {A : Type 0} → A → Result A Refusal
-done x = Ok x
-
-same_ok : {A : Type 0} (x y : A) → done x ≡ done y → x ≡ y
-same_ok x y e = cc
 
 some_none : {A : Type 0} (x : A) → Some x ≡ None → ⊥
 some_none x e = none-some x (sym e)

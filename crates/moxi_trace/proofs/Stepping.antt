@@ -7,7 +7,7 @@ use Rattle.std.proofs.lemmas.Nat.{mul-le}
 use Rattle.std.proofs.lemmas.Slice.Eq.{bytes_eq-Decides}
 use Rattle.std.proofs.lemmas.List.{append_assoc, length-append, append-nil}
 use Rattle.std.proofs.Math.Seq.{set-append_seam, get_or-append_seam}
-use Rattle.text_core.specs.Bytes.{is_digit}
+use Rattle.text_core.specs.Bytes.{is_digit, without_zeros}
 use Rattle.moxi_sexpr.specs.Atoms.{is_run}
 use Rattle.moxi_term_print.proofs.StandingNumbers.{decimal_run}
 use Rattle.moxi_terms.specs.declared.data.Datum.{Datum}
@@ -20,7 +20,7 @@ use Rattle.moxi_trace.specs.Traces.{Declared, is_within, most_steps, most_values
 use Rattle.moxi_trace.specs.Texts.{symbol_text, value_text, statement_text, statements_text, step_text, steps_text}
 use Rattle.moxi_trace.specs.Tokens.{token_of}
 use Rattle.moxi_trace.specs.ReadBack.{CanBeReadBack}
-use Rattle.moxi_trace.specs.Reading.{at_point, is_stated, variable_named, is_number, with_failing, with_step, nothing_stated, lacks, values_of, without_zeros}
+use Rattle.moxi_trace.specs.Reading.{at_point, is_stated, variable_named, is_number, with_failing, with_step, nothing_stated, lacks, values_of}
 use Rattle.moxi_trace.proofs.Spelled.{Parts, blank_parts, closing_parts, opening_token, closing_token, numeral_token}
 use Rattle.moxi_trace.proofs.Going.{Standing, reading, Goes, goes_then, Leads, goes_token, goes_blank}
 use Rattle.moxi_trace.proofs.Head.{here}

@@ -1,22 +1,12 @@
 -- A token, a stray byte and the end behind the line that they end.
-use Rattle.std.proofs.Common.{◌≡◌, List, ℕ, Result, Ok, Err, sym, ap, subst}
+use Rattle.std.proofs.Common.{◌≡◌, List, ℕ, Result, Ok, Err}
 use Rattle.text_core.specs.declared.place.Place.{Place}
-use Rattle.text_core.specs.declared.place.Refusal.{Refusal}
 use Rattle.text_core.specs.declared.end.End.{End}
-use Rattle.text_core.specs.declared.end.End.TheVariants.{Bad, NoMemory}
 use Rattle.moxi_trace.specs.declared.tokens.Shape.{Shape}
 use Rattle.moxi_trace.specs.Traces.{Declared}
-use Rattle.moxi_trace.specs.Reading.{Reading, go_on, refused, on_line, token_step, step, stray, ended, finished}
-use Rattle.moxi_trace.specs.Answer.{Leaves}
-
--- the first of two steps is refused
-first_refuses : (B : Type 0) (o : Result Reading Refusal) (f : Reading → Result Reading Refusal) (q new : Reading) (e : End) → Leaves {B = B} o q (Err e) → Leaves {B = B} (go_on o f) new (Err e)
-first_refuses B o f q new (Bad refusal) h = ap (λ x. go_on x f) h
-first_refuses B o f q new NoMemory h = tt
-
--- or goes on
-then_leaves : {B : Type 0} (o : Result Reading Refusal) (f : Reading → Result Reading Refusal) (q new : Reading) (r : Result B End) → o ≡ Ok q → Leaves (f q) new r → Leaves (go_on o f) new r
-then_leaves o f q new r e h = subst (λ (x : Result Reading Refusal). Leaves (go_on x f) new r) (sym e) h
+use Rattle.moxi_trace.specs.Reading.{Reading, on_line, token_step, step, stray, ended, finished}
+use Rattle.text_core.specs.Answers.{refused, Leaves}
+use Rattle.text_core.proofs.AnswerLaws.{first_refuses, then_leaves}
 
 pub step_leaves : {B : Type 0} (d : Declared) (s : Shape) (bytes : List ℕ) (at : Place) (r q new : Reading) (result : Result B End) → on_line at.line r ≡ Ok q → Leaves (token_step d s bytes at q) new result → Leaves (step d s bytes at r) new result
 unfolding step

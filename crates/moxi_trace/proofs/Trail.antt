@@ -9,7 +9,7 @@ use Rattle.moxi_sexpr.specs.Bytes.{is_blank}
 use Rattle.moxi_sexpr.specs.Atoms.{is_simple, spelled}
 use Rattle.moxi_sexpr.specs.declared.scan.Spelling.TheVariants as how
 use Rattle.moxi_sexpr.specs.Printing.{is_among, reserved_words}
-use Rattle.moxi_term_print.proofs.StandingNumbers.{digits_long, digits_run, word_again}
+use Rattle.moxi_term_print.proofs.StandingNumbers.{digits_run, word_again}
 use Rattle.moxi_terms.specs.declared.data.Sort.{Sort}
 use Rattle.moxi_terms.specs.declared.data.Sort.TheVariants.{Truth, Bits, Choice}
 use Rattle.moxi_terms.specs.declared.data.Datum.{Datum}
@@ -28,6 +28,7 @@ use Rattle.moxi_trace.specs.Reading.{value_at, value_read, is_bracket}
 use Rattle.moxi_trace.proofs.Spelled.{Parts, closing_parts, symbol_token, binary_token}
 use Rattle.moxi_trace.proofs.Going.{Standing, reading, Goes, Leads, goes_token}
 use Rattle.moxi_trace.proofs.Head.{here}
+use Rattle.word_core.proofs.BinaryDigits.{digits_long}
 
 -- ---- tokens of one byte or more
 

@@ -7,18 +7,6 @@ use Rattle.moxi_trace.specs.Reading.{Reading}
 use Rattle.moxi_trace.specs.declared.point.Answered.{Answered}
 use Rattle.moxi_trace.specs.Responses.{Passing, answered}
 
--- this result or this refusal, or want of memory
-abbrev pub Answers : {A : Type 0} → Result A Refusal → Result A End → Type 0
-Answers wanted (Ok x) = wanted ≡ Ok x
-Answers wanted (Err (Bad refusal)) = wanted ≡ Err refusal
-Answers wanted (Err NoMemory) = Unit {0}
-
--- the same of a step that leaves what it is to come to
-abbrev pub Leaves : {A B : Type 0} → Result A Refusal → A → Result B End → Type 0
-Leaves wanted new (Ok done) = wanted ≡ Ok new
-Leaves wanted new (Err (Bad refusal)) = wanted ≡ Err refusal
-Leaves wanted new (Err NoMemory) = Unit {0}
-
 -- the same of a byte, which tells how many bytes are to be passed over
 abbrev pub Passes : Result Passing Refusal → Reading → Result ℕ End → Type 0
 Passes wanted new (Ok n) = wanted ≡ Ok (n, new)

@@ -1,9 +1,8 @@
 -- What each token of a response does, by where its reading stands.
-use Rattle.std.specs.Prelude.{◌==◌, ◌+◌, ℕ, Bool, true, false, not, ◌&&◌, ◌||◌, nat_le, nat_lt, if◌then◌else◌, Option, Some, None, is_none, is_some, option_and_then, Result, Ok, Err, List, [], ◌∷◌, ◌++◌, length, codes, decimal, replicate, slice_get, slice_index_or, slice_set}
+use Rattle.std.specs.Prelude.{◌==◌, ◌+◌, ℕ, Bool, true, false, not, ◌&&◌, ◌||◌, nat_le, nat_lt, if◌then◌else◌, Option, Some, None, is_none, is_some, option_and_then, Result, Ok, List, [], ◌∷◌, ◌++◌, length, codes, decimal, replicate, slice_get, slice_index_or, slice_set}
 use Rattle.std.specs.List.{list_any}
 use Rattle.std.specs.Str.{bytes_eq}
 use Rattle.text_core.specs.declared.place.Place.{Place}
-use Rattle.text_core.specs.declared.place.Kind.TheVariants.{Y}
 use Rattle.text_core.specs.declared.place.Refusal.{Refusal}
 use Rattle.text_core.specs.Places.{start}
 use Rattle.name_maps.specs.Names.{place_of}
@@ -17,6 +16,8 @@ use Rattle.moxi_trace.specs.declared.tokens.Shape.{Shape}
 use Rattle.moxi_trace.specs.declared.tokens.Shape.TheVariants as shape
 use Rattle.moxi_trace.specs.Traces.{Declared, names_of, is_within}
 use Rattle.moxi_trace.specs.Values.{value_of}
+use Rattle.text_core.specs.Bytes.{without_zeros, is_empty}
+use Rattle.text_core.specs.Answers.{go_on, refused}
 
 -- where the reading stands: what comes next, the line of the last token and the test that fails there, if one does; the query;
 -- the bracket of the last step, and the value that it has stated for each variable; and the steps that are whole
@@ -28,13 +29,6 @@ pub record Reading : Type 0 where
   pub step : Place
   pub stated : List (Option Datum)
   pub steps : List (List Datum)
-
-abbrev pub go_on : {A B : Type 0} → Result A Refusal → (A → Result B Refusal) → Result B Refusal
-go_on (Ok x) f = f x
-go_on (Err refusal) f = Err refusal
-
-abbrev pub refused : {A : Type 0} → ℕ → Place → Result A Refusal
-refused n at = Err (record { kind = Y n; place = at })
 
 abbrev pub at_point : Point → Reading → Reading
 at_point p r = record r { point = p }
@@ -118,10 +112,6 @@ abbrev pub steps_step : Declared → Shape → Place → Reading → Result Read
 steps_step d shape.Open at r = Ok (step_begun d at r)
 steps_step d shape.Close at r = Ok (at_point point.Last r)
 steps_step d k at r = refused 1 at
-
-abbrev pub without_zeros : List ℕ → List ℕ
-without_zeros [] = []
-without_zeros (b ∷ bs) = if b == 48 then without_zeros bs else b ∷ bs
 
 -- steps are counted from 0; zeros may begin a number
 abbrev pub is_number : ℕ → List ℕ → Bool
@@ -228,10 +218,6 @@ stray at r = go_on (on_line at.line r) (λ q. refused 1 at)
 abbrev pub is_whole : Point → Bool
 is_whole point.Whole = true
 is_whole p = false
-
-abbrev pub is_empty : {A : Type 0} → List A → Bool
-is_empty [] = true
-is_empty (x ∷ xs) = false
 
 -- a text is whole behind the last bracket and where it has a step
 abbrev pub ended : Place → Reading → Result Reading Refusal

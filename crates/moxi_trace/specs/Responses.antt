@@ -8,7 +8,8 @@ use Rattle.moxi_sexpr.specs.Bytes.{is_blank}
 use Rattle.moxi_trace.specs.declared.point.Answered.{Answered}
 use Rattle.moxi_trace.specs.Traces.{Declared, IsStatedTrace, is_within, most_bytes}
 use Rattle.moxi_trace.specs.Tokens.{Scan, token_of}
-use Rattle.moxi_trace.specs.Reading.{Reading, go_on, refused, step, stray, finished, begin}
+use Rattle.moxi_trace.specs.Reading.{Reading, step, stray, finished, begin}
+use Rattle.text_core.specs.Answers.{go_on, refused}
 
 -- how many bytes of the last token are still to come, and where the reading stands
 abbrev pub Passing : Type 0

@@ -5,7 +5,8 @@ ghost use Rattle.moxi_trace.specs.Tokens.{token_of};
 ghost use Rattle.moxi_trace.specs.Traces.{HasOwnNames};
 ghost use Rattle.moxi_trace.specs.Reading.{begin};
 ghost use Rattle.moxi_trace.specs.Responses.{token_read, byte_read, read_from, response_of, answered, IsStatedResponse};
-ghost use Rattle.moxi_trace.specs.Answer.{Answers, Finishes, Passes};
+ghost use Rattle.moxi_trace.specs.Answer.{Finishes, Passes};
+ghost use Rattle.text_core.specs.Answers.{Answers};
 
 use crate::declarations::Declarations;
 use crate::point::Answered;

@@ -1,7 +1,6 @@
 -- A state or a label is of the declared types exactly where it gives each item of a variable a value of its type.
-use Rattle.std.proofs.Common.{◌≡◌, ℕ, zero, suc, ◌+◌, Bool, true, false, not, ◌&&◌, ◌||◌, List, [], ◌∷◌, ◌++◌, map, flat_map, Option, Some, refl, ap, ◌∙◌, arith}
+use Rattle.std.proofs.Common.{◌≡◌, ℕ, zero, ◌+◌, Bool, true, false, not, ◌&&◌, ◌||◌, List, [], ◌∷◌, map, flat_map, Option, Some, refl, ap, ◌∙◌, arith}
 use Rattle.std.specs.List.{slice_get, list_all}
-use Rattle.std.proofs.lemmas.List.Folds.{list_all-append}
 use Rattle.smv_text.specs.declared.tree.Parameter.{Parameter}
 use Rattle.smv_text.specs.declared.tree.VarKind.{VarKind}
 use Rattle.smv_text.specs.Tree.{Tree, truth, number, literal, name, prefix, chain, choice, cases, select, call, next, set, range, Trees, no_trees, tree, PlainDomain, boolean, members, between, bits, instance, PlainItem, PlainDefinition, PlainElement, vars, defines, constants, assigns, init, trans, invar, spec}
@@ -11,6 +10,9 @@ use Rattle.smv_meaning.specs.Names.{parent_of, path_in, dotted_at}
 use Rattle.smv_meaning.specs.Phases.{over_instances}
 use Rattle.smv_meaning.specs.Runs.{domain_fits, is_fit, element_fits, values_fit}
 use Rattle.smv_items.specs.FlatItems.{Content, variable, definition, actual, Origin, with_content, actual_content, actual_items, domain_content, variable_item, definition_item, element_items, items_here, origins_of, path_of}
+use Rattle.text_core.proofs.Truths.{and_true}
+use Rattle.text_core.proofs.ListLaws.{both_so}
+use Rattle.smv_laws.proofs.Rests.{IsRest, rest_more}
 
 abbrev pub content_fits : (VarKind → Bool) → Valuation → List ℕ → Content → Bool
 content_fits picked values x (variable kind d) = not (picked kind) || is_of_type d (values x)
@@ -19,14 +21,6 @@ content_fits picked values x (actual j e) = true
 
 abbrev pub origin_fits : (VarKind → Bool) → List Instance → Valuation → Origin → Bool
 origin_fits picked t values m = content_fits picked values (path_of t m) m.content
-
--- two lists of which all is so
-both_so : {X : Type 0} (p : X → Bool) (xs ys : List X) (a b : Bool) → list_all p xs ≡ a → list_all p ys ≡ b → list_all p (xs ++ ys) ≡ (a && b)
-both_so p xs ys a b h k = list_all-append p xs ys ∙ ap (λ c. c && list_all p ys) h ∙ ap (λ c. a && c) k
-
-and_true : (b : Bool) → (b && true) ≡ b
-and_true true = refl
-and_true false = refl
 
 or_true : (b : Bool) → true ≡ (b || true)
 or_true true = refl
@@ -98,13 +92,6 @@ module _ (picked : VarKind → Bool) (t : List Instance) (values : Valuation) wh
   elements_fit i path [] e = refl
   elements_fit i path (el ∷ es) e =
       both_so (origin_fits picked t values) (element_items i el) (flat_map (element_items i) es) _ _ (element_fits_so i path el e) (elements_fit i path es e)
-
--- the rest of the instances from a number on
-abbrev pub IsRest : List Instance → ℕ → List Instance → Type 0
-IsRest t i rest = (n : ℕ) → slice_get t (i + n) ≡ slice_get rest n
-
-pub rest_more : (t : List Instance) (i : ℕ) (at : Instance) (rest : List Instance) → IsRest t i (at ∷ rest) → IsRest t (i + 1) rest
-rest_more t i at rest h n = let s : (i + 1) + n ≡ i + suc n = omega arith in ap (slice_get t) s ∙ h (suc n)
 
 pub rest_first : (t : List Instance) (i : ℕ) (at : Instance) (rest : List Instance) → IsRest t i (at ∷ rest) → slice_get t i ≡ Some at
 rest_first t i at rest h = let s : i ≡ i + 0 = omega arith in ap (slice_get t) s ∙ h 0

@@ -5,7 +5,7 @@ use Rattle.std.specs.Option.{option_or}
 use Rattle.std.proofs.Common.{arith}
 use Rattle.std.proofs.lemmas.Bool.Decides.{nat_tests}
 use Rattle.text_core.specs.declared.place.Place.{Place}
-use Rattle.text_core.specs.Bytes.{is_digit}
+use Rattle.text_core.specs.Bytes.{is_digit, heads}
 use Rattle.word_core.specs.Words.{BitVector}
 use Rattle.smv_text.specs.declared.token.Token.{Token}
 use Rattle.smv_text.specs.declared.token.TokenKind.TheVariants as kind
@@ -15,7 +15,7 @@ use Rattle.smv_text.specs.declared.token.Sign.TheVariants as sign
 use Rattle.smv_text.specs.declared.tree.Member.{Member}
 use Rattle.smv_text.specs.declared.tree.VarKind.{VarKind}
 use Rattle.smv_text.specs.declared.tree.Parameter.{Parameter}
-use Rattle.smv_text.specs.Bytes.{is_letter, heads, AllPass, look_up}
+use Rattle.smv_text.specs.Bytes.{is_letter, AllPass, look_up}
 use Rattle.smv_text.specs.Signs.{sign_bytes, signs}
 use Rattle.smv_text.specs.Keywords.{keywords}
 use Rattle.smv_text.specs.Numbers.{number_of, literal_of}

@@ -19,13 +19,14 @@ use Rattle.btor_witness.specs.Texts.{SpellsWitness}
 use Rattle.moxi_terms.specs.declared.data.Datum.{Datum}
 use Rattle.moxi_terms.specs.Value.{Values}
 use Rattle.moxi_layout.specs.LayoutLaws.{IsLaidOut}
-use Rattle.moxi_lift.specs.Laws.{LiftsMeetQueries, MeetsQueryOf, trace_of}
+use Rattle.moxi_lift.specs.Laws.{LiftsMeetQueries, MeetsQueryOf}
 use Rattle.moxi_lift.specs.Lifted.{lifted}
 use Rattle.witness_lift.specs.LineLaws.{SpellsOnly, model_lines, model_system}
 use Rattle.witness_lift.specs.Breaking.{BreaksIn}
 use Rattle.smv_commands.specs.Translation.{btor_text}
 use Rattle.btor_commands.proofs.Lifted.{spelled_fits}
 use Rattle.smv_commands.specs.SmvLift.{LiftsBack, lifted_run, lifted_trace, run_for}
+use Rattle.moxi_scripts.specs.Behaviour.{trace_of}
 
 steps_count : (read : Values → List Given) (trace : ℕ → Values) (j n : ℕ) → length (decoded_steps read trace j n) ≡ n
 steps_count read trace j zero = refl

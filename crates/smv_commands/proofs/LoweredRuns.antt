@@ -13,15 +13,14 @@ use Rattle.smv_flatten.specs.FlatModel.{FlatModel}
 use Rattle.smv_meaning.specs.declared.value.Run.{Run}
 use Rattle.smv_script.specs.Script.{script_of}
 use Rattle.smv_trace_text.specs.Lines.{lines_of as lines_in_text}
-use Rattle.smv_trace.specs.Reading.{begin, refused}
+use Rattle.smv_trace.specs.Reading.{begin}
 use Rattle.smv_trace.specs.Texts.{lines_read, most_bytes, trace_of}
 use Rattle.smv_trace.proofs.Sound.{stated_from}
 use Rattle.btor_tree.specs.declared.lines.Line.{Line}
-use Rattle.btor_tree.specs.Fits.{IsWellFormed}
 use Rattle.btor_tree.specs.Printing.{printed as printed_lines}
 use Rattle.btor_witness.specs.declared.witness.Witness.{Witness}
 use Rattle.btor_witness.specs.Judging.{judged_btor}
-use Rattle.btor_witness.specs.Printing.{IsWithinLimits, IsWitness, printed, rising_witness}
+use Rattle.btor_witness.specs.Printing.{IsWithinLimits, IsWitness, printed}
 use Rattle.btor_witness.specs.Sizes.{sizes_of}
 use Rattle.btor_witness.specs.Texts.{SpellsWitness}
 use Rattle.moxi_flat.specs.FlatSystem.{flat_of}
@@ -49,6 +48,8 @@ use Rattle.smv_commands.specs.Traces.{IsRunAnswer, OfBytes, OfText, of_trace, tr
 use Rattle.smv_commands.proofs.Forms.{read_of}
 use Rattle.smv_commands.proofs.LiftedRuns.{own_lines}
 use Rattle.smv_commands.proofs.TraceAnswers.{one_answer_to_trace}
+use Rattle.text_core.specs.Answers.{refused}
+use Rattle.moxi_lower.proofs.Printed.{PrintedIsRead}
 
 -- files define one witness of a trace
 pub one_lowering : (files : Files) (model second : List ℕ) (j : ℕ) (a b : Answer) → IsLowering files model second j a → IsLowering files model second j b → a ≡ b
@@ -98,9 +99,6 @@ said_rejected f j run {s} {step} {k} {clause} end judged is same_step same_claus
 )
 
 -- ---- what the witness stands for
-
-abbrev PrintedIsRead : Type 0
-PrintedIsRead = (lines : List Line) (w : Witness) → IsWellFormed lines → IsWitness (sizes_of lines) w → IsWithinLimits lines w → SpellsWitness lines (printed lines w) (rising_witness (sizes_of lines) w)
 
 pub states_run : LoweredAreAccepted → LoweredRoundTrip → PrintedIsRead → (bytes : List ℕ) (j : ℕ) (source : PlainSource) (a : IsAcceptedModel bytes j source) → SpellsOnly (printed_lines (model_lines source)) (model_lines source) → IsLaidOut (model_system source) (model_lines source)
     → (trace : List ℕ) (run : Run) → trace_of (declared_by source) trace ≡ Ok run → verdict_on source j run ≡ Yes → StatesRun source j run (lowered_text source j run)

@@ -5,7 +5,7 @@ use Rattle.text_core.specs.declared.place.Place.{Place}
 use Rattle.smv_text.specs.Tree.{PlainSource}
 use Rattle.smv_flat.specs.FlatForms.{PlainFlat, flat_smv}
 use Rattle.smv_width.specs.FlatWidth.{width_of}
-use Rattle.smv_script.specs.Script.{query_of, script_of}
+use Rattle.smv_script.specs.Script.{script_of}
 use Rattle.moxi_term_print.specs.Shown.{lines_text}
 use Rattle.moxi_script_print.specs.Printing.{shown_script}
 use Rattle.smv_script_laws.specs.RunLaws.{HasRun, HasQueries, invariant_count}
@@ -26,6 +26,7 @@ use Rattle.smv_commands.specs.Models.{IsCheckRefusal, smv_too_long}
 use Rattle.smv_commands.proofs.Checked.{not_checked, one_check_refusal}
 use Rattle.smv_commands.proofs.Sources.{same_model}
 use Rattle.btor_commands.proofs.Imported.{met_here, met_there}
+use Rattle.moxi_scripts.specs.Script.{query_of}
 
 -- ---- one answer
 

@@ -16,7 +16,6 @@ use Rattle.smv_script_laws.specs.Decoding.{run_of}
 use Rattle.moxi_terms.specs.declared.data.Datum.{Datum}
 use Rattle.moxi_flat.specs.FlatSystem.{flat_of}
 use Rattle.moxi_lines.specs.Lines.{lines_of}
-use Rattle.moxi_lift.specs.Laws.{trace_of}
 use Rattle.moxi_lift.specs.Lifted.{lifted}
 use Rattle.witness_lift.specs.Lifting.{lines_in}
 use Rattle.btor_tree.specs.declared.lines.Line.{Line}
@@ -49,6 +48,7 @@ use Rattle.smv_commands.specs.SmvLift.{IsLiftedTrace, IsSmvLift, OfBytes, RunsAr
 use Rattle.smv_commands.proofs.Inputs.{items_have_inputs}
 use Rattle.btor_commands.proofs.Lifted.{done_second, one_of_lines}
 use Rattle.smv_commands.proofs.TraceAnswers.{goes_also}
+use Rattle.moxi_scripts.specs.Behaviour.{trace_of}
 
 -- ---- one answer
 

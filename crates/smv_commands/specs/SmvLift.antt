@@ -18,7 +18,6 @@ use Rattle.btor_witness.specs.declared.witness.Witness.{Witness}
 use Rattle.btor_witness.specs.Judging.{judged_btor}
 use Rattle.btor_witness.specs.Texts.{SpellsWitness}
 use Rattle.moxi_terms.specs.declared.data.Datum.{Datum}
-use Rattle.moxi_lift.specs.Laws.{trace_of}
 use Rattle.moxi_lift.specs.Lifted.{lifted}
 use Rattle.witness_lift.specs.LineLaws.{model_system}
 use Rattle.witness_lift.specs.Lifting.{lifted_run as run_lifted_to}
@@ -28,6 +27,7 @@ use Rattle.smv_commands.specs.Limits.{most_smv_bytes}
 use Rattle.smv_commands.specs.Models.{IsAcceptedModel, IsRefusal, smv_too_long}
 use Rattle.smv_commands.specs.Translation.{Accepts, btor_text}
 use Rattle.btor_commands.specs.Lifting.{OfLines}
+use Rattle.moxi_scripts.specs.Behaviour.{trace_of}
 
 -- the run that steps of the model's script represent; the inputs of the last step are left out
 abbrev pub run_for : PlainSource → List (List Datum) → Run

@@ -1,22 +1,21 @@
 -- Steps of evaluating an expression.
-use Rattle.std.proofs.Common.{◌≡◌, ℕ, ◌+◌, ◌≤◌, max, Bool, true, false, ◌&&◌, ◌||◌, if◌then◌else◌, List, [], ◌∷◌, ◌++◌, map, refl, sym, ap, ◌∙◌, subst, arith}
+use Rattle.std.proofs.Common.{◌≡◌, ℕ, ◌+◌, ◌≤◌, max, Bool, true, false, ◌&&◌, if◌then◌else◌, List, [], ◌∷◌, ◌++◌, map, refl, sym, ap, ◌∙◌, subst, arith}
 use Rattle.text_core.specs.declared.place.Place.{Place}
 use Rattle.smv_text.specs.declared.tree.Path.{Path}
 use Rattle.smv_text.specs.declared.tree.Branch.{Branch}
 use Rattle.smv_text.specs.declared.operators.Infix.{Infix}
-use Rattle.smv_text.specs.declared.operators.Infix.TheVariants.{Member, Union}
 use Rattle.smv_text.specs.Tree.{Tree, chain, Links, no_links, link, links_of, branches_of}
 use Rattle.std.proofs.Common.{Vec, Box, Global}
 use Rattle.smv_text.specs.declared.tree.Expr.{Expr}
 use Rattle.smv_text.specs.declared.tree.Link.{Link}
 use Rattle.smv_text.specs.declared.tree.Shape.{Chain}
 use Rattle.smv_text.specs.View.{plain, plain_branch, plain_link}
-use Rattle.smv_laws.proofs.SafeLaws.{front_value_is}
+use Rattle.smv_laws.proofs.SafeLaws.{front_value_is, front_permits_is, or_false, or_last}
 use Rattle.smv_meaning.specs.laws.Plain.{plain_branch-at, plain_link-at, plain-chain}
 use Rattle.smv_meaning.specs.declared.value.Value.{Value}
 use Rattle.smv_meaning.specs.Values.{is_true}
 use Rattle.smv_meaning.specs.Expressions.{Denotation, alone, joined, is_implies, are_implies, is_from_right, is_last, denote, implications, linked, chosen, taken}
-use Rattle.smv_meaning.specs.Safety.{depth, link_depth, right_depth, branch_depth, front_value, fronts_value, front_permits, fronts_permit, Safe, SafeBranches}
+use Rattle.smv_meaning.specs.Safety.{depth, link_depth, right_depth, branch_depth, front_value, fronts_value, fronts_permit, Safe, SafeBranches}
 
 -- ---- chains
 
@@ -26,11 +25,6 @@ right_front all l ls e =
 
 pub implies_front : (l : Link) (ls : List Link) → are_implies (links_of (map plain_link (l ∷ ls))) ≡ (is_implies l.op && are_implies (links_of (map plain_link ls)))
 implies_front l ls = ap (λ (p : Infix × Tree). is_implies p.0 && are_implies (links_of (map plain_link ls))) (plain_link-at l)
-
-front_permits_is : (op : Infix) (d c : Denotation) (u : Value) → (joined op d c).permits u ≡ front_permits op u d.value (d.permits u) c
-front_permits_is Member d c u = refl
-front_permits_is Union d c u = refl
-front_permits_is op d c u = refl
 
 fronts_value_is : (f g : Path → Value) (d : Denotation) (ls : Links) → (linked f g d ls).value ≡ fronts_value f g d.value ls
 fronts_value_is f g d no_links = refl
@@ -66,14 +60,6 @@ right_low p e ls h = let l = if_max (is_from_right ls) 0 (right_depth ls) (link_
 not_last : (bs : List Branch) (l : Branch) → is_last (branches_of (map plain_branch (bs ++ l ∷ []))) ≡ false
 not_last [] l = refl
 not_last (b ∷ bs) l = refl
-
-or_false : (a b : Bool) → b ≡ false → (a || b) ≡ a
-or_false true b e = refl
-or_false false b e = e
-
-or_last : (a : Bool) (d c : Denotation) → (if a || true then d else c) ≡ d
-or_last true d c = refl
-or_last false d c = refl
 
 taken_is_chosen_of : (f g : Path → Value) (bs : List Branch) (l : Branch) (all : List Branch) → all ≡ bs ++ l ∷ []
     → taken f g (branches_of (map plain_branch all)) ≡ chosen f g (branches_of (map plain_branch bs)) (denote f g (plain_branch l).1)

@@ -22,10 +22,11 @@ use Rattle.smv_evaluation.specs.View.{stated}
 use Rattle.smv_meaning.specs.laws.Booleans.{both_true, absurd_bool}
 use Rattle.smv_laws.proofs.Cycles.{In, in_any, same_is, same_self}
 use Rattle.smv_laws.proofs.Ranked.{key, in_keys}
-use Rattle.smv_laws.proofs.OrderLaws.{number, bool_cases}
+use Rattle.smv_laws.proofs.OrderLaws.{number}
 use Rattle.smv_laws.proofs.Settling.{Under}
 use Rattle.smv_laws.proofs.Positions.{upto_positive, order_rank, at_place, rank_low, rank_at, body_before}
 use Rattle.smv_evaluation.proofs.RowReads.{kept, safely_kept, denoted_kept}
+use Rattle.text_core.proofs.Truths.{bool_cases}
 
 -- up to a place in the order the values of what is marked are kept
 abbrev pub KeptUpto : {S : Type 0} → List PartOf → List ℕ → HashMap (ℕ × Bor (List ℕ)) Bool S → Row → Values → ℕ → Type 0

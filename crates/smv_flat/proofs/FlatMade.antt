@@ -24,11 +24,11 @@ use Rattle.smv_meaning.specs.laws.Booleans.{both_true}
 use Rattle.smv_meaning.specs.laws.Booleans.{absurd_bool}
 use Rattle.smv_types.specs.Steps.{implies_step}
 use Rattle.smv_types.specs.laws.Composing.{values_then}
-use Rattle.smv_items.specs.laws.OriginLemmas.{append_none}
 use Rattle.smv_items.specs.FlatItems.{Leaf}
 use Rattle.smv_flat.specs.FlatTree.{FlatTree, flat_link, flat_links_of, flat_branches_of, flat_trees_of, flat_branch, flat_tree_then, flat_tree, flat_links, flat_branches, flat_trees, is_set, has_set}
 use Rattle.smv_flat.specs.FlatView.{fronts_type, chain_type, behind_types}
 use Rattle.smv_types.specs.laws.Shapes.{implies_across}
+use Rattle.text_core.proofs.ListLaws.{append_none}
 
 pub literal_is : (w : BitVector) → IsWord w → literal_type w ≡ Some (word_type w.width)
 literal_is w h = ap (λ b. if b then Some (word_type w.width) else None) (is_word w h)

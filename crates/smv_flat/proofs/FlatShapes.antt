@@ -1,5 +1,5 @@
 -- A flat expression by the shape of the one from which it is made.
-use Rattle.std.proofs.Common.{◌≡◌, ℕ, ◌≤◌, ◌++◌, ◌∷◌, ◌||◌, [], Bool, true, false, List, drop, length, map, Option, option_map, Result, IfOk, Vec, Box, Global, refl, sym, ap, ◌∙◌, subst}
+use Rattle.std.proofs.Common.{◌≡◌, ℕ, ◌≤◌, ◌++◌, ◌∷◌, ◌||◌, [], Bool, true, List, drop, length, map, Option, option_map, Result, IfOk, Vec, Box, Global, sym, ap, ◌∙◌, subst}
 use Rattle.std.specs.List.{list_any}
 use Rattle.std.proofs.lemmas.List.{drop_all}
 use Rattle.text_core.specs.declared.errors.NoMemory.{NoMemory}
@@ -24,6 +24,7 @@ use Rattle.smv_items.specs.FlatItems.{Leaf}
 use Rattle.smv_flat.specs.FlatTree.{FlatTree, FlatTrees, flat_chain, flat_choice, flat_links_of, flat_branches_of, flat_trees_of, flat_tree, flat_links, flat_branches, is_set, has_set, unless_set}
 use Rattle.smv_flat.specs.FlatView.{plain_flat, plain_flat_link, plain_flat_branch, IsNode, IsPrefixNode, IsSelectNode, IsChainNode, IsCallNode, MakesChain, MakesChoice, IsFlat, AreFlatLinks, AreFlatBranches, AreFlatTrees, AreParts, behind_types}
 use Rattle.smv_flat.proofs.FlatMade.{plain_prefix, plain_chain, plain_choice, plain_select, plain_call, plain_next, finished, link_flat, link_type, links_are, link_types_are, branch_flat, when_type, value_type, value_set, branches_are, conditions_are, values_are, sets_are, part_flat, part_type, parts_are, part_types_are, chain_is, choice_values}
+use Rattle.text_core.proofs.Truths.{or_false}
 
 abbrev pub Node : (Path → Named) → (Path → Leaf) → Position → Bool → Typed → Tree → Type 0
 Node names leaf at under x e = IsFlat names leaf at under e x
@@ -109,10 +110,6 @@ parts_end names leaf at under xs k x l h g = record {
   trees = ap flat_trees_of (finished (map plain_flat x.exprs.items) (map (part_flat names leaf at under) xs) (part_flat names leaf at under) xs k l h) ∙ parts_are names leaf at under xs;
   types = finished (map (option_map seen) x.types.items) (map (part_type names at) xs) (part_type names at) xs k l g ∙ part_types_are names at xs;
 }
-
-pub or_false : (b : Bool) → (b || false) ≡ b
-or_false true = refl
-or_false false = refl
 
 pub cases_end : (names : Path → Named) (leaf : Path → Leaf) (at : Position) (under : Bool) (xs : List Branch) (k : ℕ) (x : Cases) → length xs ≤ k
     → map plain_flat_branch x.branches.items ++ map (branch_flat names leaf at under) (drop k xs) ≡ map (branch_flat names leaf at under) xs

@@ -1,31 +1,25 @@
 -- Steps of evaluating a flat expression.
-use Rattle.std.proofs.Common.{◌≡◌, ℕ, ◌≤◌, max, Bool, true, false, ◌&&◌, ◌||◌, if◌then◌else◌, List, [], ◌∷◌, ◌++◌, map, Option, option_map, refl, sym, ap, ◌∙◌, subst, arith, rules, Vec, Box, Global}
+use Rattle.std.proofs.Common.{◌≡◌, ℕ, ◌≤◌, max, Bool, true, false, ◌&&◌, if◌then◌else◌, List, [], ◌∷◌, ◌++◌, map, Option, option_map, refl, sym, ap, ◌∙◌, subst, arith, rules, Vec, Box, Global}
 use Rattle.smv_text.specs.declared.operators.Infix.{Infix}
-use Rattle.smv_text.specs.declared.operators.Infix.TheVariants.{Member, Union}
-use Rattle.smv_laws.proofs.SafeLaws.{front_value_is}
+use Rattle.smv_laws.proofs.SafeLaws.{front_value_is, front_permits_is, or_false, or_last}
 use Rattle.smv_meaning.specs.declared.value.Value.{Value}
 use Rattle.smv_meaning.specs.Values.{is_true}
 use Rattle.smv_meaning.specs.Expressions.{Denotation, alone, joined, is_implies}
-use Rattle.smv_meaning.specs.Safety.{front_value, front_permits}
+use Rattle.smv_meaning.specs.Safety.{front_value}
 use Rattle.smv_meaning.specs.Types.{ExprType}
 use Rattle.smv_intervals.specs.View.{seen}
 use Rattle.smv_flat.specs.declared.expressions.FlatExpr.{FlatExpr, the_lemmas as expr_lemmas}
 use Rattle.smv_flat.specs.declared.expressions.FlatLink.{FlatLink, the_lemmas as link_lemmas}
-use Rattle.smv_flat.specs.declared.expressions.FlatBranch.{FlatBranch, the_lemmas as branch_lemmas}
+use Rattle.smv_flat.specs.declared.expressions.FlatBranch.{FlatBranch}
 use Rattle.smv_flat.specs.declared.expressions.FlatShape.{Chain, the_lemmas as shape_lemmas}
 use Rattle.smv_flat.specs.FlatTree.{FlatTree, flat_chain, FlatLinks, no_flat_links, flat_link, flat_links_of, flat_branches_of, flat_are_implies, flat_from_right, flat_is_last, flat_denote, flat_implications, flat_linked, flat_chosen, flat_taken}
 use Rattle.smv_flat.specs.FlatView.{plain_flat, plain_flat_link, plain_flat_branch}
 use Rattle.smv_flat_evaluation.specs.Fronts.{flat_fronts_value, flat_fronts_permit, chain_value}
 use Rattle.smv_flat_evaluation.specs.FlatSafety.{FlatSafe, FlatSafeBranches}
 use Rattle.smv_flat_evaluation.proofs.Depths.{flat_depth, flat_branch_depth}
+use Rattle.smv_flat.proofs.FlatViews.{branch_at, link_at}
 
 -- ---- plain forms
-
-branch_at : (b : FlatBranch) → plain_flat_branch b ≡ (plain_flat b.when, plain_flat b.value)
-branch_at b = search (rules, branch_lemmas)
-
-link_at : (l : FlatLink) → plain_flat_link l ≡ (l.op, plain_flat l.operand)
-link_at l = search (rules, link_lemmas)
 
 plain_chain : (e : FlatExpr) (a : Box FlatExpr Global) (ls : Vec FlatLink Global) → e.shape ≡ Chain a ls
     → plain_flat e ≡ flat_chain (option_map seen e.ty) (plain_flat a.value) (flat_links_of (map plain_flat_link ls.items))
@@ -39,11 +33,6 @@ right_front all l ls e =
 
 pub implies_front : (l : FlatLink) (ls : List FlatLink) → flat_are_implies (flat_links_of (map plain_flat_link (l ∷ ls))) ≡ (is_implies l.op && flat_are_implies (flat_links_of (map plain_flat_link ls)))
 implies_front l ls = ap (λ (p : Infix × FlatTree). is_implies p.0 && flat_are_implies (flat_links_of (map plain_flat_link ls))) (link_at l)
-
-front_permits_is : (op : Infix) (d c : Denotation) (u : Value) → (joined op d c).permits u ≡ front_permits op u d.value (d.permits u) c
-front_permits_is Member d c u = refl
-front_permits_is Union d c u = refl
-front_permits_is op d c u = refl
 
 fronts_value_is : (s f g : ℕ → Value) (d : Denotation) (ls : FlatLinks) → (flat_linked s f g d ls).value ≡ flat_fronts_value s f g d.value ls
 fronts_value_is s f g d no_flat_links = refl
@@ -75,14 +64,6 @@ chain_permits s f g t e ls u h =
 not_last : (bs : List FlatBranch) (l : FlatBranch) → flat_is_last (flat_branches_of (map plain_flat_branch (bs ++ l ∷ []))) ≡ false
 not_last [] l = refl
 not_last (b ∷ bs) l = refl
-
-or_false : (a b : Bool) → b ≡ false → (a || b) ≡ a
-or_false true b e = refl
-or_false false b e = e
-
-or_last : (a : Bool) (d c : Denotation) → (if a || true then d else c) ≡ d
-or_last true d c = refl
-or_last false d c = refl
 
 taken_is_chosen_of : (s f g : ℕ → Value) (bs : List FlatBranch) (l : FlatBranch) (all : List FlatBranch) → all ≡ bs ++ l ∷ []
     → flat_taken s f g (flat_branches_of (map plain_flat_branch all)) ≡ flat_chosen s f g (flat_branches_of (map plain_flat_branch bs)) (flat_denote s f g (plain_flat_branch l).1)

@@ -1,5 +1,5 @@
 -- The names of an accepted model's items, definitions and actuals differ in each instance.
-use Rattle.std.proofs.Common.{◌≡◌, ◌≢◌, ℕ, zero, suc, ◌+◌, ◌<◌, Bool, true, false, ◌&&◌, ◌==◌, if◌then◌else◌, cond, List, [], ◌∷◌, ◌++◌, map, flat_map, position, Option, Some, None, option_map, bytes_eq, refl, sym, ap, ◌∙◌, subst, arith}
+use Rattle.std.proofs.Common.{◌≡◌, ◌≢◌, ℕ, zero, suc, ◌+◌, ◌<◌, Bool, true, false, ◌&&◌, ◌==◌, if◌then◌else◌, cond, List, [], ◌∷◌, ◌++◌, map, flat_map, position, Some, option_map, bytes_eq, refl, sym, ap, ◌∙◌, subst, arith}
 use Rattle.std.specs.List.{slice_get, AllByRecursion}
 use Rattle.std.proofs.lemmas.List.{map-append}
 use Rattle.std.proofs.lemmas.Bool.{eq-eqb, eqb-true}
@@ -9,11 +9,11 @@ use Rattle.smv_text.specs.declared.tree.VarKind.{VarKind}
 use Rattle.smv_text.specs.Tree.{Tree, truth, number, literal, name, prefix, chain, choice, cases, select, call, next, set, range, Trees, no_trees, tree, PlainDomain, boolean, members, between, bits, instance, PlainItem, PlainDefinition, PlainElement, vars, defines, constants, assigns, init, trans, invar, spec}
 use Rattle.smv_meaning.specs.Instances.{Instance}
 use Rattle.smv_meaning.specs.Names.{Local, body_of, of_actual, of_domain, among_items, among_definitions, among_elements, among_parameters, parent_of, local_in, local}
-use Rattle.smv_meaning.specs.Phases.{Body, body_same, Declared, element_declares, declared_in, over_instances}
+use Rattle.smv_meaning.specs.Phases.{Body, body_same, Declared, element_declares, declared_in, over_instances, parameter_declared, item_declared, definition_declared}
 use Rattle.smv_items.specs.FlatItems.{Content, variable, definition, actual, Origin, with_content, actual_content, actual_items, domain_content, variable_item, definition_item, element_items, items_here, origins_of, is_body}
-use Rattle.smv_items.specs.laws.OriginLemmas.{AllOwn, own_here}
+use Rattle.smv_items.specs.laws.OriginLemmas.{own_here}
 use Rattle.smv_items.specs.laws.Differing.{all_weaker, all_unmapped, all_with, holds_at, differ_joined, differ_front, differ_back, differ_across, Within, none_left, kept, within_joined, none_within, all_within, differ_within}
-use Rattle.smv_items.specs.laws.Declarations.{name_of, DiffersInside, of_origin, of_declared, parameter_declared, item_declared, definition_declared, actuals_within, elements_within, here_within}
+use Rattle.smv_items.specs.laws.Declarations.{name_of, DiffersInside, of_origin, of_declared, actuals_within, elements_within, here_within}
 use Rattle.name_maps.proofs.FreshNames.{AllDiffer, Lacks, all_joined, tells_apart}
 use Rattle.smv_laws.proofs.Cycles.{same_is, same_self}
 use Rattle.smv_laws.proofs.Ranked.{key, actual_keys, element_keys, keys_in, keys_of}
@@ -35,7 +35,7 @@ LocalAs g m = IsLocal (g m.name) m.content
 abbrev own_name : ℕ → List ℕ → List ℕ
 own_name i x = x
 
-bytes_self : (x : List ℕ) → bytes_eq x x ≡ true
+pub bytes_self : (x : List ℕ) → bytes_eq x x ≡ true
 bytes_self x = (bytes_eq-Decides x x).1 refl
 
 -- where two readings of names agree on the items' names

@@ -2,7 +2,6 @@
 -- it is in the state.
 use Rattle.std.proofs.Common.{◌≡◌, ℕ, zero, suc, ◌+◌, Bool, true, false, not, ◌&&◌, List, [], ◌∷◌, ◌++◌, map, flat_map, Option, refl, sym, ap, ◌∙◌, subst, arith}
 use Rattle.std.specs.List.{slice_get, list_all}
-use Rattle.std.proofs.lemmas.List.Folds.{list_all-append}
 use Rattle.smv_text.specs.declared.tree.Path.{Path}
 use Rattle.smv_text.specs.declared.tree.Parameter.{Parameter}
 use Rattle.smv_text.specs.declared.tree.VarKind.{VarKind}
@@ -29,6 +28,8 @@ use Rattle.smv_flat_laws.proofs.FlatRows.{AllFrom, all_of, HasContent, HasItems}
 use Rattle.smv_flat_laws.proofs.FlatTruths.{Agrees}
 use Rattle.smv_flat_laws.proofs.FlatSections.{no_instance, section_is_plain, module_is_plain, AllModules}
 use Rattle.smv_text.specs.declared.tree.When.TheVariants.{First}
+use Rattle.text_core.proofs.ListLaws.{both_so}
+use Rattle.smv_laws.proofs.Rests.{IsRest, rest_more}
 
 -- ---- frozen variables
 
@@ -66,10 +67,6 @@ actual_stays t state following i j x (call p f cs) = refl
 actual_stays t state following i j x (next p c) = refl
 actual_stays t state following i j x (set p cs) = refl
 actual_stays t state following i j x (range p low high) = refl
-
--- two lists of which all is so
-both_so : {X : Type 0} (p : X → Bool) (xs ys : List X) (a b : Bool) → list_all p xs ≡ a → list_all p ys ≡ b → list_all p (xs ++ ys) ≡ (a && b)
-both_so p xs ys a b h k = list_all-append p xs ys ∙ ap (λ c. c && list_all p ys) h ∙ ap (λ c. a && c) k
 
 actuals_stay : (t : List Instance) (state following : Valuation) (i j : ℕ) (qs : List Parameter) (es : Trees) → list_all (origin_stays t state following) (actual_items i j qs es) ≡ true
 actuals_stay t state following i j [] es = refl
@@ -153,13 +150,6 @@ elements_stay t state following i path (el ∷ es) e h =
     let s = both_true (section_is_plain el) (list_all section_is_plain es) h in
     both_so (origin_stays t state following) (element_items i el) (flat_map (element_items i) es) (element_stays path state following el) (list_all (element_stays path state following) es)
     (element_stays_so t state following i path el e s.0) (elements_stay t state following i path es e s.1)
-
--- the rest of the instances from a number on
-abbrev pub IsRest : List Instance → ℕ → List Instance → Type 0
-IsRest t i rest = (n : ℕ) → slice_get t (i + n) ≡ slice_get rest n
-
-pub rest_more : (t : List Instance) (i : ℕ) (at : Instance) (rest : List Instance) → IsRest t i (at ∷ rest) → IsRest t (i + 1) rest
-rest_more t i at rest h n = let s : (i + 1) + n ≡ i + suc n = omega arith in ap (slice_get t) s ∙ h (suc n)
 
 pub rest_path : (t : List Instance) (i : ℕ) (at : Instance) (rest : List Instance) → IsRest t i (at ∷ rest) → (x : List ℕ) → dotted_at t i x ≡ dotted at.path x
 rest_path t i at rest h x = let s : i ≡ i + 0 = omega arith in ap (λ (o : Option Instance). dotted (path_in o) x) (ap (slice_get t) s ∙ h 0)

@@ -30,6 +30,7 @@ use Rattle.smv_flat_laws.proofs.FlatSame.{flat_same}
 use Rattle.smv_flat_laws.proofs.FlatFound.{variable_at_item, Home, home_found}
 use Rattle.smv_flat_laws.proofs.FlatRows.{row_leaf, row_reads, row_values}
 use Rattle.smv_flat_laws.proofs.FlatApart.{SameWhere, apart, label_free}
+use Rattle.text_core.proofs.Truths.{and_true}
 
 -- ---- a flat expression in rows
 
@@ -166,10 +167,6 @@ assignments_same t when now later target meant value g i (a ∷ xs) c d =
     let u = both_true (is_assignable a.when (found_in t i a.target)) (list_all assignable (element_assigns (found_in t) i (assigns xs))) d in
     ap (λ b. b && list_all (holds_here t when target now later) (map (assignment_form t i) xs)) (assignment_same t when now later target meant value g i a s.0 u.0)
     ∙ ap (λ b. assignment_holds (meant i) (value i) when a && b) (assignments_same t when now later target meant value g i xs s.1 u.1)
-
-pub and_true : (b : Bool) → (b && true) ≡ b
-and_true true = refl
-and_true false = refl
 
 formula_same : (t : List Instance) (when : When) (now later target : Row) (meant : ℕ → Tree → Denotation) (value : ℕ → Path → Value) → Agrees t when now later target meant value
     → (i : ℕ) (at : Position) → at.inputs ≡ is_following when → at.nexts ≡ is_following when → (e : Tree) → Holds (formula_typing (types_in true t i) at e)

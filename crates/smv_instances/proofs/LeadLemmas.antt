@@ -21,6 +21,7 @@ use Rattle.smv_instances.specs.declared.leads.Walk.{Walk}
 use Rattle.smv_instances.specs.declared.leads.Walk.TheVariants.{Ends, Waits}
 use Rattle.smv_instances.specs.View.{found_plain}
 use Rattle.smv_meaning.specs.laws.Booleans.{both_true, or_true}
+use Rattle.text_core.proofs.Truths.{or_false as or_nothing}
 
 pub past : (r n : ℕ) (m : Found) → r ≤ n → until r n m ≡ m
 past r n m l = by (nat_lt n r) refl
@@ -83,10 +84,6 @@ key_same i x key h = let b = both_true (key.instance == i) (bytes_eq key.name.no
 or_moved : (b c d e : Bool) → e ≡ (c || d) → (b || e) ≡ ((b || c) || d)
 or_moved true c d e h = refl
 or_moved false c d e h = h
-
-or_nothing : (b : Bool) → (b || false) ≡ b
-or_nothing true = refl
-or_nothing false = refl
 
 list_any_push : (p : Key → Bool) (ks : List Key) (key : Key) → list_any p (ks ++ key ∷ []) ≡ (list_any p ks || p key)
 list_any_push p [] key = or_nothing (p key)

@@ -1,5 +1,5 @@
 -- Each variable of a spelled model whose checks hold has a type, and no enumeration is without members.
-use Rattle.std.proofs.Common.{◌≡◌, ℕ, ◌+◌, Bool, true, false, ◌&&◌, if◌then◌else◌, List, [], ◌∷◌, ◌++◌, map, flat_map, None, refl}
+use Rattle.std.proofs.Common.{◌≡◌, ℕ, ◌+◌, Bool, true, false, ◌&&◌, List, [], ◌∷◌, ◌++◌, map, flat_map, refl}
 use Rattle.std.specs.List.{list_all, AllByRecursion}
 use Rattle.text_core.specs.declared.place.Place.{Place}
 use Rattle.smv_text.specs.declared.token.Token.{Token}
@@ -14,11 +14,12 @@ use Rattle.smv_meaning.specs.Types.{is_unmixed, in_limit, has_width, has_order, 
 use Rattle.smv_meaning.specs.Checks.{Named, on_type, passes, domain_checks, variable_type}
 use Rattle.smv_meaning.specs.Phases.{over_instances, actuals_typing, element_typing, type_checks}
 use Rattle.smv_meaning.specs.Owed.{HasType}
-use Rattle.smv_meaning.specs.laws.Booleans.{both_true, two_true, absurd_bool}
+use Rattle.smv_meaning.specs.laws.Booleans.{both_true, two_true}
 use Rattle.smv_laws.proofs.Typable.{split}
 use Rattle.smv_items.specs.FlatItems.{Content, variable, definition, actual, Origin, with_content, actual_content, actual_items, domain_content, variable_item, definition_item, element_items, items_here, origins_of}
 use Rattle.smv_flat_laws.proofs.FlatSections.{AllModules, named_good}
 use Rattle.smv_laws.proofs.CheckedLaws.{four}
+use Rattle.smv_laws.proofs.TypeLaws.{if_type}
 
 abbrev pub is_stated : PlainDomain → Bool
 is_stated (members []) = false
@@ -84,10 +85,6 @@ AllDeclared ms = AllByRecursion OriginDeclared ms
 declared_on : (ms ns : List Origin) → AllDeclared ms → AllDeclared ns → AllDeclared (ms ++ ns)
 declared_on [] ns a b = b
 declared_on (m ∷ ms) ns a b = (a.0, declared_on ms ns a.1 b)
-
-if_type : (b : Bool) (d : PlainDomain) → b ≡ true → HasType (domain_type d) → HasType (if b then domain_type d else None)
-if_type true d b h = h
-if_type false d b h = absurd_bool b
 
 variable_declared : (i : ℕ) (kind : VarKind) (x : List ℕ) (d : PlainDomain) → is_stated d ≡ true → ((((is_unmixed d && on_type (domain_type d) in_limit) && has_width d) && has_order d) ≡ true)
     → AllDeclared (with_content i x (domain_content kind d))

@@ -35,12 +35,12 @@ use Rattle.smv_flat.specs.declared.parts.FlatParts.{FlatParts}
 use Rattle.smv_flat.specs.FlatParts.{parts_plain}
 use Rattle.smv_rows.specs.Places.{IsGiven}
 use Rattle.smv_rows.specs.Truths.{CanFill, RowsAreSafe}
-use Rattle.smv_rows.proofs.Sets.{same}
 use Rattle.smv_judge.specs.Fits.{items_fit}
 use Rattle.smv_judge.specs.Labels.{first_label}
 use Rattle.smv_judge.specs.Models.{IsFlatOf, HasModel, failing, first_clauses, LabelFits, StateFits}
 use Rattle.smv_judge.proofs.Declared.{AllDeclared, origins_declared}
 use Rattle.smv_judge.proofs.FitLaws.{fits_so, first_label_fits}
+use Rattle.digraph.proofs.Lists.{same}
 
 -- ---- the model
 

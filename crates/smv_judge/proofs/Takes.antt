@@ -5,8 +5,8 @@ use Rattle.smv_meaning.specs.declared.value.Given.{Given}
 use Rattle.smv_meaning.specs.Values.{Valuation, given}
 use Rattle.smv_flat.specs.FlatForms.{PlainFlat}
 use Rattle.smv_flat_laws.specs.FlatTruth.{Row, IsRow}
-use Rattle.smv_rows.proofs.Sets.{same}
 use Rattle.smv_judge.specs.Taken.{AreRowsOf, HasTaken}
+use Rattle.digraph.proofs.Lists.{same}
 
 -- rows were taken, and with the rows of the states that are left they are those of all states
 pub record TakenBefore (took : List Row → Type 0) (flat : PlainFlat) (last : List Given) (all labels states left : List (List Given)) : Type 0 where

@@ -19,3 +19,4 @@ pub mod SafeExpressions
 pub mod ValueLaws
 pub mod VerdictLaws
 pub mod Positions
+pub mod Rests

@@ -17,6 +17,7 @@ use Rattle.smv_meaning.specs.Settled.{has_body, Acyclic, cycle_checks_of}
 use Rattle.smv_meaning.specs.Bodies.{Placed, actual_bodies, placed_definition, element_bodies, bodies_here, placed_bodies, bodies_of, number_or, references_of, reference_graph}
 use Rattle.smv_laws.proofs.Cycles.{In, same_is, same_self}
 use Rattle.smv_laws.proofs.Ranked.{key, actual_keys, element_keys, keys_in, keys_of, in_keys, within_keys, no_reference, reaches_none, cycles_are_checked_law}
+use Rattle.text_core.proofs.Truths.{bool_cases}
 
 -- ---- numbers
 
@@ -33,10 +34,6 @@ place_here x k xs e = ap (λ b. cond b 0 (1 + place xs k)) e
 
 place_there : (x k : Body) (xs : List Body) → body_same x k ≡ false → place (x ∷ xs) k ≡ 1 + place xs k
 place_there x k xs e = ap (λ b. cond b 0 (1 + place xs k)) e
-
-pub bool_cases : (b : Bool) → (b ≡ true) ⊎ (b ≡ false)
-bool_cases true = inl refl
-bool_cases false = inr refl
 
 different : (x k : Body) → body_same x k ≡ false → k ≡ x → ⊥
 different x k h e = let s : body_same x k ≡ true = ap (body_same x) e ∙ same_self x in cc

@@ -16,8 +16,9 @@ use Rattle.smv_meaning.specs.Bodies.{bodies_of, number_or, reference_graph, IsBo
 use Rattle.smv_meaning.specs.laws.Booleans.{both_true, or_true, absurd_bool}
 use Rattle.smv_laws.proofs.Cycles.{In, in_all}
 use Rattle.smv_laws.proofs.Ranked.{key, keys_of, within_keys}
-use Rattle.smv_laws.proofs.OrderLaws.{number, nobody, bool_cases, place_within, place_is, number_to, graph_length, row_at}
+use Rattle.smv_laws.proofs.OrderLaws.{number, nobody, place_within, place_is, number_to, graph_length, row_at}
 use Rattle.smv_laws.proofs.Settling.{Under, Falls, Descent, found_under, path_refers, ranking, look_settles}
+use Rattle.text_core.proofs.Truths.{bool_cases}
 
 -- ---- places in a list
 

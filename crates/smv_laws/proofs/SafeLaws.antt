@@ -21,7 +21,7 @@ use Rattle.smv_meaning.specs.Meaning.{reading}
 use Rattle.smv_meaning.specs.Types.{ExprType, truth_type, integer_type, symbol_type, word_type, in_limit, infix_fits, infix_type, divides, shifts, joins, is_union, prefix_fits, prefix_type, function_fits, arguments_fit, function_type, numbers_of, hull_of, first_type, are_same, implies_fits, is_select, is_word_type}
 use Rattle.smv_meaning.specs.Checks.{check, passes, Position, single, under_next, Named, Typing, on_type, on_all, all_types, both_types, front_checks, front, are_unions, across, behind, branches_fit, branches_type, typing, link_types, linked, condition_types, value_types, tree_types}
 use Rattle.smv_meaning.specs.Naming.{in_body, named_found, naming}
-use Rattle.smv_meaning.specs.Safety.{Fits, front_value, Safe, SafeLinks, SafeOperands, SafeBranches, SafeTrees, SafeFound, SafePath}
+use Rattle.smv_meaning.specs.Safety.{Fits, front_value, Safe, SafeLinks, SafeOperands, SafeBranches, SafeTrees, SafeFound, SafePath, front_permits}
 use Rattle.smv_meaning.specs.Typed.{LiesIn, Lies, Gives}
 use Rattle.smv_meaning.specs.Owed.{HasType, TypedIsSafe}
 use Rattle.smv_meaning.specs.laws.Booleans.{both_true, absurd_bool}
@@ -292,3 +292,16 @@ pub typed_is_safe_law : TypedIsSafe
 typed_is_safe_law inputs found state label following g k n i at e h =
     safe (naming inputs found n i) (reading found n state label i) (reading found n following label i) (SafePath found n state label i) (SafePath found n following label i)
     (names_lie inputs found state label g n i) (names_lie inputs found following label k n i) (safe_path inputs found state label g n i) (safe_path inputs found following label k n i) at e h
+
+pub front_permits_is : (op : Infix) (d c : Denotation) (u : Value) → (joined op d c).permits u ≡ front_permits op u d.value (d.permits u) c
+front_permits_is Member d c u = refl
+front_permits_is Union d c u = refl
+front_permits_is op d c u = refl
+
+pub or_false : (a b : Bool) → b ≡ false → (a || b) ≡ a
+or_false true b e = refl
+or_false false b e = e
+
+pub or_last : (a : Bool) (d c : Denotation) → (if a || true then d else c) ≡ d
+or_last true d c = refl
+or_last false d c = refl

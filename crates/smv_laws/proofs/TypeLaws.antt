@@ -12,7 +12,7 @@ use Rattle.smv_text.specs.declared.operators.Prefix.TheVariants as OfPrefix
 use Rattle.smv_text.specs.declared.operators.Function.{Function}
 use Rattle.smv_text.specs.declared.operators.Infix.{Infix}
 use Rattle.smv_text.specs.declared.operators.Infix.TheVariants.{Member, Union}
-use Rattle.smv_text.specs.Tree.{Tree, truth, number, literal, name, prefix, chain, choice, cases, select, call, next, set, range, Links, no_links, link, Branches, no_branches, branch, Trees, no_trees, tree}
+use Rattle.smv_text.specs.Tree.{Tree, truth, number, literal, name, prefix, chain, choice, cases, select, call, next, set, range, Links, no_links, link, Branches, no_branches, branch, Trees, no_trees, tree, PlainDomain}
 use Rattle.smv_meaning.specs.declared.value.Value.{Value}
 use Rattle.smv_meaning.specs.declared.value.Value.TheVariants.{Truth, Integer, Symbol, Bits}
 use Rattle.smv_meaning.specs.Values.{Valuation, is_true, value_same, is_between}
@@ -20,12 +20,14 @@ use Rattle.smv_meaning.specs.Operators.{applied, signed, selected, called, is_wi
 use Rattle.smv_meaning.specs.Expressions.{Denotation, alone, set_of, joined, is_from_right, is_last, denote, implications, linked as linked_values, chosen, taken, values_of, one_permits}
 use Rattle.smv_meaning.specs.Names.{Found, variable_at, body_at, instance_at, symbol_of, cyclic, none}
 use Rattle.smv_meaning.specs.Meaning.{reading, value_found, denoted}
-use Rattle.smv_meaning.specs.Types.{ExprType, truth_type, integer_type, symbol_type, word_type, is_truth_type, is_word_type, type_same, in_limit, logical_fits, infix_fits, infix_type, divides, shifts, joins, is_union, prefix_fits, prefix_type, is_select, function_fits, arguments_fit, function_type, number_of, numbers_of, divisor_of, is_divisor, is_nonzero, are_same, hull, hull_of, implies_fits, first_type}
+use Rattle.smv_meaning.specs.Types.{ExprType, truth_type, integer_type, symbol_type, word_type, is_truth_type, is_word_type, type_same, in_limit, logical_fits, infix_fits, infix_type, divides, shifts, joins, is_union, prefix_fits, prefix_type, is_select, function_fits, arguments_fit, function_type, number_of, numbers_of, divisor_of, is_divisor, is_nonzero, are_same, hull, hull_of, implies_fits, first_type, domain_type}
 use Rattle.smv_meaning.specs.Checks.{Check, check, passes, Position, single, under_next, Named, Typing, on_type, all_types, on_all, both_types, front_checks, front, are_unions, across, behind, branches_fit, branches_type, is_literal, literal_type, typing, link_types, linked, condition_types, value_types, tree_types}
 use Rattle.smv_meaning.specs.Naming.{in_body, named_found, naming}
 use Rattle.smv_meaning.specs.Typed.{LiesIn, Lies, GivesFound, Gives, ValuesLie}
 use Rattle.smv_meaning.specs.laws.Booleans.{both_true, two_true, or_true, absurd_bool}
 use Rattle.smv_laws.proofs.OperatorLaws.{width_of, DivisorIs, NumberIs, NumbersAre, AllLie, infix_lies, implied_lies, prefix_lies, select_lies, called_lies, hull_left, hull_right, LiesInOne, hull_of_holds}
+use Rattle.text_core.proofs.Truths.{not_true}
+use Rattle.smv_meaning.specs.Owed.{HasType}
 
 -- what the denotation permits lies in the type, and so does its value where it may not be a set
 pub record Fine (t : Option ExprType) (d : Denotation) (sets : Bool) : Type 0 where
@@ -83,10 +85,6 @@ number_is f g e = tt
 pub numbers_are : (f g : Path → Value) (es : Trees) → NumbersAre (numbers_of es) (values_of f g es)
 numbers_are f g no_trees = tt
 numbers_are f g (tree e es) = (number_is f g e, numbers_are f g es)
-
-pub not_true : (b : Bool) → not b ≡ true → b ≡ false
-not_true true h = cc
-not_true false h = refl
 
 minus_is : (f g : Path → Value) (p q : Place) (n m : ℕ) (one : Bool) → (n == 1) ≡ one → is_nonzero (if one then Some (neg_ℤ (pos m)) else None) ≡ true
     → DivisorIs (if one then Some (neg_ℤ (pos m)) else None) (signed OfPrefix.Minus n (Integer (pos m)))
@@ -452,3 +450,7 @@ denoted_fine inputs found state label following g h n i at e =
 
 pub values_lie_law : ValuesLie
 values_lie_law inputs found state label following g h n i at e v p = (denoted_fine inputs found state label following g h n i at e).permitted v p
+
+pub if_type : (b : Bool) (d : PlainDomain) → b ≡ true → HasType (domain_type d) → HasType (if b then domain_type d else None)
+if_type true d b h = h
+if_type false d b h = absurd_bool b

@@ -2,7 +2,8 @@
 use Rattle.std.proofs.Common.{◌≡◌, ℕ, suc, Bool, false, Some, None, List, ◌∷◌, take, drop, sym, ap, ◌∙◌}
 use Rattle.text_core.specs.declared.place.Place.{Place}
 use Rattle.text_core.specs.Places.{after, next_place}
-use Rattle.smv_lex.specs.Reading.{gap_length, gap_step, on_some}
+use Rattle.smv_lex.specs.Reading.{gap_length, gap_step}
+use Rattle.text_core.specs.Bytes.{on_some}
 
 -- the place and the text behind a gap
 abbrev pub AreBehind : Place → Bool → List ℕ → Place → List ℕ → Type 0

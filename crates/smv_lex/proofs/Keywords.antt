@@ -7,11 +7,9 @@ use Rattle.std.proofs.lemmas.Slice.Eq.{bytes_eq-Decides}
 use Rattle.smv_text.specs.declared.token.Reserved.{Reserved}
 use Rattle.smv_text.specs.Bytes.{look_up}
 use Rattle.smv_text.specs.Keywords.{keywords}
-use Rattle.smv_lex.specs.Reading.{Keyword, first_of, last_of, may_be_keyword}
-
-passed_over : {A : Type 0} (b : Bool) (x y : A) → (b ≡ true → ⊥) → cond b x y ≡ y
-passed_over true x y h = absurd (h refl)
-passed_over false x y h = refl
+use Rattle.smv_lex.specs.Reading.{Keyword, last_of, may_be_keyword}
+use Rattle.text_core.proofs.Truths.{passed_over}
+use Rattle.text_core.specs.Bytes.{first_of}
 
 step : (same : Bool) (bs : List ℕ) (w : Keyword) (found : Option (Option Reserved)) (kept : List Keyword) → (bytes_eq bs w.0 ≡ true → same ≡ true) → found ≡ look_up bs kept
     → cond (bytes_eq bs w.0) (Some w.1) found ≡ look_up bs (cond same (w ∷ kept) kept)

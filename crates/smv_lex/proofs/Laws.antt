@@ -1,5 +1,5 @@
 -- What stands next is one, so what a text lexes to and its refusal are one.
-use Rattle.std.proofs.Common.{◌≡◌, ◌≢◌, ◌<◌, ℕ, suc, false, leb, eqb, Option, Some, None, Result, Ok, Err, List, [], ◌∷◌, ◌++◌, length, take, drop, refl, sym, ap, ◌∙◌, subst, inl, inr, arith}
+use Rattle.std.proofs.Common.{◌≡◌, ◌≢◌, ◌<◌, ℕ, false, leb, eqb, Option, Some, None, Result, Ok, Err, List, [], ◌∷◌, ◌++◌, length, take, drop, refl, sym, ap, ◌∙◌, subst, inl, inr, arith}
 use Rattle.std.specs.Prelude.{IfOk, IfErr, fold}
 use Rattle.std.proofs.lemmas.List.{append-nil, length-append, take-append-drop}
 use Rattle.std.proofs.lemmas.Bool.{ne_eqb, le-leb, lt-leb, leb-true, leb-false, cond_both, eqb-true, eqb-false, cases_lt, cond-true, cond-false}
@@ -11,7 +11,7 @@ use Rattle.smv_text.specs.declared.token.TokenKind.{TokenKind}
 use Rattle.smv_text.specs.declared.token.Token.{Token}
 use Rattle.smv_lex.specs.Answer.{Reads, Stops, IsRefused}
 use Rattle.smv_text.specs.Bytes.{IsLongest}
-use Rattle.text_core.specs.Places.{after, next_place, Reaches}
+use Rattle.text_core.specs.Places.{after, next_place}
 use Rattle.smv_text.specs.Words.{IsGap, IsLexeme, kind_of}
 use Rattle.smv_text.specs.Lexing.{TokenList, Next, finished, bad, Steps, ends, token, stray, misspelled, too_nested, LexesFrom, last, more, Refuses, here, later, Lexes, IsLexRefusal, opened_by, opened, most_brackets}
 use Rattle.smv_lex.specs.Reading.{gap_length, lexeme_length, kinded, sized, behind, next_of}
@@ -166,18 +166,6 @@ pub gap_end : (p : Place) (text : List ℕ) (at : Place) (rest : List ℕ) → a
 gap_end p text at rest e f =
     let k = gap_length false text in
     ap (λ q. after q rest) e ∙ ap (after (after p (take k text))) f ∙ sym (after-append p (take k text) (drop k text)) ∙ ap (after p) (take-append-drop k text)
-
--- the place stays within its numbers
-reaches_next : (b : ℕ) (p : Place) (n : ℕ) → Reaches p (suc n) → Reaches (next_place p b) n
-reaches_next b p n h = cond_both (eqb b 10) _ _ (λ q. Reaches q n) (λ _. record { line = omega arith; column = omega arith; offset = omega arith }) (λ _. record { line = omega arith; column = omega arith; offset = omega arith })
-
-pub reaches_after : (bs : List ℕ) (p : Place) (rest : List ℕ) → Reaches p (length (bs ++ rest)) → Reaches (after p bs) (length rest)
-reaches_after [] p rest h = h
-reaches_after (b ∷ bs) p rest h = reaches_after bs (next_place p b) rest (reaches_next b p (length (bs ++ rest)) h)
-
-pub reaches_along : (text bs rest : List ℕ) (p q : Place) → text ≡ bs ++ rest → q ≡ after p bs → Reaches p (length text) → Reaches q (length rest)
-reaches_along text bs rest p q e f h =
-    subst (λ (x : Place). Reaches x (length rest)) (sym f) (reaches_after bs p rest (subst (λ (x : List ℕ). Reaches p (length x)) e h))
 
 -- what the loop's parts make of the text that is left, where so many brackets stand open
 pub next_from : (n m : ℕ) (p : Place) (text : List ℕ) (at : Place) (rest : List ℕ) (x : Next)

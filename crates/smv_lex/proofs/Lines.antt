@@ -13,13 +13,8 @@ use Rattle.smv_text.specs.Words.{IsLexeme, in_word, in_run}
 use Rattle.text_core.specs.Bytes.{is_digit}
 use Rattle.smv_lex.specs.Reading.{lexeme_length}
 use Rattle.smv_lex.proofs.Longest.{lexeme_is, longest_lexeme}
-
-abbrev is_inner : ℕ → Bool
-is_inner b = not (eqb b 10)
-
--- no byte ends the line
-abbrev IsInLine : List ℕ → Type 0
-IsInLine bs = list_all is_inner bs ≡ true
+use Rattle.text_core.proofs.PlaceLaws.{is_inner, IsInLine}
+use Rattle.text_core.proofs.Truths.{not_true}
 
 -- one byte along, and so many more
 along_one : (p : Place) (n : ℕ) → along (along p 1) n ≡ along p (n + 1)
@@ -36,15 +31,11 @@ along_none p =
     let offset : p.offset ≡ p.offset + 0 = omega arith in
     ap (λ x. P x p.offset) column ∙ ap (P (p.column + 0)) offset
 
-no_end : (t : Bool) → not t ≡ true → t ≡ false
-no_end true e = absurd (let g : false ≡ true = e in cc)
-no_end false e = refl
-
 after_line : (bs : List ℕ) (p : Place) → IsInLine bs → after p bs ≡ along p (length bs)
 after_line [] p e = along_none p
 after_line (b ∷ bs) p e =
     let both = and_parts (is_inner b) (list_all is_inner bs) e in
-    let here : next_place p b ≡ along p 1 = cond-false _ _ _ (no_end (eqb b 10) both.0) in
+    let here : next_place p b ≡ along p 1 = cond-false _ _ _ (not_true (eqb b 10) both.0) in
     let count : length bs + 1 ≡ length (b ∷ bs) = omega arith in
     ap (λ q. after q bs) here ∙ after_line bs (along p 1) both.1 ∙ along_one p (length bs) ∙ ap (along p) count
 

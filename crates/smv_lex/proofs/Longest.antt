@@ -6,11 +6,11 @@ use Rattle.std.proofs.lemmas.Bool.{eqb-true, cond_both, and_parts}
 use Rattle.std.proofs.lemmas.Bool.Decides.{nat_tests}
 use Rattle.smv_text.specs.declared.token.Sign.{Sign}
 use Rattle.smv_text.specs.declared.token.Sign.TheVariants as sign
-use Rattle.text_core.specs.Bytes.{is_digit}
-use Rattle.smv_text.specs.Bytes.{is_letter, is_blank, AllPass, IsLongest, front_length, heads}
+use Rattle.text_core.specs.Bytes.{is_digit, heads, on_some}
+use Rattle.smv_text.specs.Bytes.{is_letter, is_blank, AllPass, IsLongest, front_length}
 use Rattle.smv_text.specs.Signs.{sign_bytes, may_appear}
 use Rattle.smv_text.specs.Words.{IsGap, no_gap, blank, comment, IsLexeme, in_word, in_run}
-use Rattle.smv_lex.specs.Reading.{on_some, gap_step, gap_length, lexeme_length, begins_comment, colon_sign, dot_sign, bang_sign, less_sign, greater_sign, dash_sign, slash_sign, sign_at, sign_length}
+use Rattle.smv_lex.specs.Reading.{gap_step, gap_length, lexeme_length, begins_comment, colon_sign, dot_sign, bang_sign, less_sign, greater_sign, dash_sign, slash_sign, sign_at, sign_length}
 
 pub same_front : {P : List ℕ → List ℕ → Type 0} (f r g s : List ℕ) → f ++ r ≡ g ++ s → IsLongest P f r → IsLongest P g s → (f ≡ g) × (r ≡ s)
 same_front {P = P} f r g s e a b =

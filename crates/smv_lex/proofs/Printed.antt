@@ -1,7 +1,6 @@
 -- A printed token is read again, whatever is behind the blank that follows it.
-use Rattle.std.proofs.Common.{◌≡◌, ◌<◌, ◌≤◌, ◌^◌, ◌+◌, ◌*◌, ◌-◌, ℕ, suc, Bool, true, false, cond, ◌&&◌, eqb, Option, Some, None, option_map, List, [], ◌∷◌, ◌++◌, length, take, drop, refl, sym, ap, ◌∙◌, arith, rules}
+use Rattle.std.proofs.Common.{◌≡◌, ◌<◌, ◌≤◌, ◌^◌, ◌+◌, ◌*◌, ◌-◌, ℕ, suc, Bool, true, false, cond, ◌&&◌, eqb, Option, Some, None, option_map, List, [], ◌∷◌, ◌++◌, length, take, drop, refl, sym, ap, ◌∙◌, arith}
 use Rattle.std.proofs.lemmas.List.{take_at, drop_at}
-use Rattle.std.proofs.lemmas.Str.Parse.{IsNumeralModel, numerals_by_fold}
 use Rattle.std.proofs.lemmas.Fmt.{decimal_is_IsNumeral_wide}
 use Rattle.std.proofs.lemmas.Bool.{and_parts}
 use Rattle.std.proofs.lemmas.Bool.Decides.{nat_tests}
@@ -28,6 +27,7 @@ use Rattle.smv_lex.specs.Reading.{gap_length, lexeme_length, is_unmarked}
 use Rattle.smv_lex.specs.Spelling.{spelled, literal_bytes}
 use Rattle.smv_lex.specs.Printable.{IsIdentifier, IsPrintable}
 use Rattle.smv_lex.proofs.Spellings.{sign_read, word_read}
+use Rattle.text_core.proofs.Numerals.{all_digits, value_from, numerals}
 
 -- the end, or a blank
 pub data Apart : List ℕ → Type 0 where
@@ -137,18 +137,6 @@ reserved_as : (w : Reserved) → IsReadAs (kind.Reserved w) (word_bytes w)
 reserved_as word.Module = word_as (kind.Reserved word.Module) _ _ refl refl (word_read word.Module)
 reserved_as w = word_as (kind.Reserved w) _ _ refl refl (word_read w)
 
--- numbers
-abbrev pub digits_all : List ℕ → Bool
-digits_all [] = true
-digits_all (b ∷ bs) = is_digit b && digits_all bs
-
-abbrev pub value_from : ℕ → List ℕ → ℕ
-value_from n [] = n
-value_from n (b ∷ bs) = value_from (n * 10 + (b - 48)) bs
-
-numerals : IsNumeralModel (λ ds. digits_all ds ≡ true) (value_from 0)
-numerals = numerals_by_fold _ (search rules) value_from (search rules)
-
 -- the numbers of words have fewer than 64 decimal digits
 short : (n : ℕ) → n < 2 ^ WIDEST → n < 10 ^ 64
 short n lt = omega (arith, lt)
@@ -156,7 +144,7 @@ short n lt = omega (arith, lt)
 decimal_some : (n : ℕ) → n < 2 ^ WIDEST → 0 < length (decimal n)
 decimal_some n lt = (decimal_is_IsNumeral_wide n (short n lt)).0.0
 
-decimal_digits : (n : ℕ) → n < 2 ^ WIDEST → digits_all (decimal n) ≡ true
+decimal_digits : (n : ℕ) → n < 2 ^ WIDEST → all_digits (decimal n) ≡ true
 decimal_digits n lt = numerals.from (decimal n) (decimal_is_IsNumeral_wide n (short n lt)).0.1
 
 decimal_value : (n : ℕ) → n < 2 ^ WIDEST → value_from 0 (decimal n) ≡ n
@@ -165,17 +153,17 @@ decimal_value n lt = let is = decimal_is_IsNumeral_wide n (short n lt) in numera
 pub digit_value : (b : ℕ) → is_digit b ≡ true → (digit_number b ≡ b - 48) × (nat_lt (digit_number b) 10 ≡ true)
 digit_value b e = let same : digit_number b ≡ b - 48 = rw e refl in (same, grind (arith, nat_tests, same))
 
-number_is : (bs : List ℕ) (n : ℕ) → digits_all bs ≡ true → number_after 10 n bs ≡ Some (value_from n bs)
+number_is : (bs : List ℕ) (n : ℕ) → all_digits bs ≡ true → number_after 10 n bs ≡ Some (value_from n bs)
 number_is [] n e = refl
 number_is (b ∷ bs) n e =
-    let h = and_parts (is_digit b) (digits_all bs) e in
+    let h = and_parts (is_digit b) (all_digits bs) e in
     let d = digit_value b h.0 in
     rw (d.1, d.0) (number_is bs (n * 10 + (b - 48)) h.1)
 
-run_long : (bs : List ℕ) → digits_all bs ≡ true → front_length in_run bs ≡ length bs
+run_long : (bs : List ℕ) → all_digits bs ≡ true → front_length in_run bs ≡ length bs
 run_long [] e = refl
 run_long (b ∷ bs) e =
-    let h = and_parts (is_digit b) (digits_all bs) e in
+    let h = and_parts (is_digit b) (all_digits bs) e in
     let goes : in_run b [] ≡ true = grind (arith, nat_tests, h.0) in
     rw goes (ap suc (run_long bs h.1))
 
@@ -200,33 +188,33 @@ digit_kind l d x y z e f = rw (e, f) refl
 number_as : (n : ℕ) → n < 2 ^ 62 → IsReadAs (kind.Number n) (decimal n)
 number_as n lt = go (decimal n) (decimal_some n (small n lt)) (decimal_digits n (small n lt)) (number_again n lt)
   where
-    go : (ds : List ℕ) → 0 < length ds → digits_all ds ≡ true → number_of ds ≡ Some n → IsReadAs (kind.Number n) ds
+    go : (ds : List ℕ) → 0 < length ds → all_digits ds ≡ true → number_of ds ≡ Some n → IsReadAs (kind.Number n) ds
     go [] some all is = absurd (omega (arith, some))
     go (b ∷ bs) some all is =
-        let h = and_parts (is_digit b) (digits_all bs) all in
+        let h = and_parts (is_digit b) (all_digits bs) all in
         let no_letter : is_letter b ≡ false = grind (arith, nat_tests, h.0) in
         run_as (kind.Number n) b bs h.0 (run_long bs h.1) (digit_kind (is_letter b) (is_digit b) (Some (word_kind (b ∷ bs))) (run_kind (b ∷ bs)) (option_map kind.Sign (look_up (b ∷ bs) signs)) no_letter h.0
         ∙ ap (λ o. option_or (option_map kind.Number o) (option_map kind.Literal (literal_of (b ∷ bs)))) is)
 
 -- word literals
-unmarked : (bs rest : List ℕ) → digits_all bs ≡ true → front_length is_unmarked (bs ++ 95 ∷ rest) ≡ length bs
+unmarked : (bs rest : List ℕ) → all_digits bs ≡ true → front_length is_unmarked (bs ++ 95 ∷ rest) ≡ length bs
 unmarked [] rest e = refl
 unmarked (b ∷ bs) rest e =
-    let h = and_parts (is_digit b) (digits_all bs) e in
+    let h = and_parts (is_digit b) (all_digits bs) e in
     let free : eqb b 95 ≡ false = grind (arith, nat_tests, h.0) in
     rw free (ap suc (unmarked bs rest h.1))
 
-bare_digits : (bs : List ℕ) → digits_all bs ≡ true → bare bs ≡ bs
+bare_digits : (bs : List ℕ) → all_digits bs ≡ true → bare bs ≡ bs
 bare_digits [] e = refl
 bare_digits (b ∷ bs) e =
-    let h = and_parts (is_digit b) (digits_all bs) e in
+    let h = and_parts (is_digit b) (all_digits bs) e in
     let free : eqb b 95 ≡ false = grind (arith, nat_tests, h.0) in
     rw free (ap (λ x. b ∷ x) (bare_digits bs h.1))
 
-run_marked : (bs rest : List ℕ) → digits_all bs ≡ true → digits_all rest ≡ true → front_length in_run (bs ++ 95 ∷ rest) ≡ length (bs ++ 95 ∷ rest)
+run_marked : (bs rest : List ℕ) → all_digits bs ≡ true → all_digits rest ≡ true → front_length in_run (bs ++ 95 ∷ rest) ≡ length (bs ++ 95 ∷ rest)
 run_marked [] rest e f = ap suc (run_long rest f)
 run_marked (b ∷ bs) rest e f =
-    let h = and_parts (is_digit b) (digits_all bs) e in
+    let h = and_parts (is_digit b) (all_digits bs) e in
     let goes : in_run b [] ≡ true = grind (arith, nat_tests, h.0) in
     rw goes (ap suc (run_marked bs rest h.1 f))
 

@@ -1,7 +1,7 @@
 -- A word before some rest is one by itself too.
 use Rattle.std.proofs.Common.{◌≡◌, ℕ, suc, Bool, true, false, not, cond, ◌&&◌, ◌||◌, eqb, List, [], ◌∷◌, length, refl, ap, ◌∙◌}
-use Rattle.text_core.specs.Bytes.{is_digit}
-use Rattle.smv_text.specs.Bytes.{AllPass, front_length, is_letter, heads}
+use Rattle.text_core.specs.Bytes.{is_digit, heads}
+use Rattle.smv_text.specs.Bytes.{AllPass, front_length, is_letter}
 use Rattle.smv_text.specs.Words.{in_word}
 
 -- a word before some rest is one before none

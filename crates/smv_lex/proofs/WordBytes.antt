@@ -1,22 +1,14 @@
 -- The table of the bytes of words, each byte tested.
-use Rattle.std.proofs.Common.{◌≡◌, ◌<◌, ◌+◌, ℕ, zero, suc, Bool, true, false, not, ◌&&◌, eqb, List, [], ◌∷◌, length, get_or, refl, sym, ap, ◌∙◌, arith}
+use Rattle.std.proofs.Common.{◌≡◌, ◌<◌, ◌+◌, ℕ, zero, suc, Bool, true, not, ◌&&◌, eqb, List, [], ◌∷◌, length, get_or, refl, ap, ◌∙◌, arith}
 use Rattle.std.proofs.lemmas.Bool.{and_parts}
 use Rattle.smv_lex.specs.declared.scan.TheConstants.{WORD_BYTES}
 use Rattle.smv_lex.specs.Reading.{is_word_byte}
-
-abbrev same : Bool → Bool → Bool
-same true b = b
-same false b = not b
+use Rattle.text_core.proofs.Truths.{same, same_is}
 
 -- from the byte n on, the table has `-` at the bytes that aren't of a word
 abbrev agrees : List ℕ → ℕ → Bool
 agrees [] n = true
 agrees (c ∷ cs) n = same (not (eqb c 45)) (is_word_byte n) && agrees cs (suc n)
-
-same_is : (a b : Bool) → same a b ≡ true → a ≡ b
-same_is true b e = sym e
-same_is false true e = absurd (let g : false ≡ true = e in cc)
-same_is false false e = refl
 
 agrees_at : (cs : List ℕ) (n i : ℕ) → agrees cs n ≡ true → i < length cs → not (eqb (get_or cs i 0) 45) ≡ is_word_byte (n + i)
 agrees_at [] n i e h = absurd (omega arith)

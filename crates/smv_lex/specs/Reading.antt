@@ -8,17 +8,13 @@ use Rattle.smv_text.specs.declared.token.TokenKind.{TokenKind}
 use Rattle.smv_text.specs.declared.token.Reserved.{Reserved}
 use Rattle.smv_text.specs.declared.token.Sign.{Sign}
 use Rattle.smv_text.specs.declared.token.Sign.TheVariants as sign
-use Rattle.text_core.specs.Bytes.{is_digit}
-use Rattle.smv_text.specs.Bytes.{is_letter, is_blank, heads, front_length}
+use Rattle.text_core.specs.Bytes.{is_digit, heads, on_some}
+use Rattle.smv_text.specs.Bytes.{is_letter, is_blank, front_length}
 use Rattle.text_core.specs.Places.{after}
 use Rattle.smv_text.specs.Signs.{sign_bytes}
 use Rattle.smv_text.specs.Numbers.{bare}
 use Rattle.smv_text.specs.Words.{in_word, in_run, kind_of}
 use Rattle.smv_text.specs.Lexing.{Next, finished, go, bad, token_at, refusal_at, opened_by, most_brackets}
-
-abbrev pub on_some : {A : Type 0} → Option A → ℕ → (A → ℕ) → ℕ
-on_some None n f = n
-on_some (Some x) n f = f x
 
 -- Whether a byte goes on with a gap, and whether the gap is then inside a comment.
 abbrev pub gap_step : Bool → ℕ → List ℕ → Option Bool
@@ -102,11 +98,6 @@ Keyword = List ℕ × Option Reserved
 -- a row of a table of words
 abbrev pub row : Bor (List ℕ) × Option Reserved → Keyword
 row w = (w.0.now, w.1)
-
--- the first byte, or 0 where there is none
-abbrev pub first_of : List ℕ → ℕ
-first_of [] = 0
-first_of (b ∷ bs) = b
 
 -- the last byte, or 0 where there is none
 abbrev pub last_of : List ℕ → ℕ

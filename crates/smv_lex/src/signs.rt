@@ -1,9 +1,9 @@
 // Signs: the longest one at a position.
 ghost use Rattle.std.specs.Prelude.{◌≡◌, drop, length};
-ghost use Rattle.smv_text.specs.Bytes.{heads};
 ghost use Rattle.smv_lex.specs.Reading.{begins_comment, sign_at};
 ghost use Rattle.smv_text.specs.Signs.{sign_bytes};
 ghost use Rattle.smv_lex.specs.Reading as spec;
+ghost use Rattle.text_core.specs.Bytes.{heads};
 
 use smv_text::Sign;
 

@@ -2,7 +2,8 @@
 ghost use Rattle.std.specs.Prelude.{◌≡◌, ◌==◌, map};
 ghost use Rattle.std.specs.List.{filter};
 ghost use Rattle.smv_text.specs.Keywords.{keywords};
-ghost use Rattle.smv_lex.specs.Reading.{first_of, row};
+ghost use Rattle.smv_lex.specs.Reading.{row};
+ghost use Rattle.text_core.specs.Bytes.{first_of};
 
 use smv_text::Reserved;
 

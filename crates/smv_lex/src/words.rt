@@ -3,7 +3,8 @@ ghost use Rattle.std.specs.Prelude.{◌≡◌, [], Some, map};
 ghost use Rattle.std.specs.Str.{bytes_eq};
 ghost use Rattle.smv_text.specs.Bytes.{look_up};
 ghost use Rattle.smv_text.specs.Keywords.{keywords};
-ghost use Rattle.smv_lex.specs.Reading.{first_of, last_of, may_be_keyword, row};
+ghost use Rattle.smv_lex.specs.Reading.{last_of, may_be_keyword, row};
+ghost use Rattle.text_core.specs.Bytes.{first_of};
 
 use crate::tables::{Keyword, keywords_from};
 use smv_text::Reserved;

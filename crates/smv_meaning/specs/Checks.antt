@@ -1,5 +1,5 @@
 -- Checks, and the typing of an expression: its checks in their order, and its type.
-use Rattle.std.specs.Prelude.{ℕ, ◌+◌, ◌-◌, ◌^◌, Bool, true, false, not, ◌&&◌, ◌||◌, if◌then◌else◌, pos, int_le, nat_lt, List, [], ◌∷◌, ◌++◌, Option, Some, None, option_map}
+use Rattle.std.specs.Prelude.{ℕ, ◌+◌, ◌-◌, ◌^◌, Bool, true, false, not, ◌&&◌, ◌||◌, if◌then◌else◌, pos, int_le, nat_lt, List, [], ◌∷◌, ◌++◌, Option, Some, None, option_map, ◌≡◌}
 use Rattle.std.specs.List.{list_all}
 use Rattle.text_core.specs.declared.place.Place.{Place}
 use Rattle.text_core.specs.declared.place.Kind.TheVariants.{S}
@@ -12,6 +12,8 @@ use Rattle.smv_text.specs.Tree.{Tree, truth, number, literal, name, prefix, chai
 use Rattle.smv_meaning.specs.Expressions.{is_from_right}
 use Rattle.smv_meaning.specs.Operators.{is_width}
 use Rattle.smv_meaning.specs.Types.{ExprType, truth_type, integer_type, word_type, is_truth_type, is_word_type, in_limit, infix_fits, infix_type, divides, shifts, joins, is_union, prefix_fits, prefix_type, is_select, function_fits, arguments_fit, function_type, numbers_of, are_same, hull_of, implies_fits, first_type, is_unmixed, has_width, has_order, domain_type}
+use Rattle.text_core.specs.declared.end.End.{End}
+use Rattle.text_core.specs.declared.end.End.TheVariants.{Bad, NoMemory}
 
 -- a refusal, which comes where the test fails
 pub record Check : Type 0 where
@@ -219,3 +221,8 @@ domain_checks p d =
 abbrev pub variable_type : PlainDomain → Option ExprType
 variable_type d =
     if is_unmixed d && on_type (domain_type d) in_limit && has_width d && has_order d then domain_type d else None
+
+-- the refusal is that of the first check that fails; of want of memory nothing is said
+abbrev pub IsBad : End → Option Refusal → Type 0
+IsBad (Bad why) found = found ≡ Some why
+IsBad NoMemory found = Unit {0}

@@ -8,7 +8,7 @@ use Rattle.smv_text.specs.declared.tree.Parameter.{Parameter}
 use Rattle.smv_text.specs.declared.tree.VarKind.TheVariants as OfVarKind
 use Rattle.smv_text.specs.declared.tree.When.{When}
 use Rattle.smv_text.specs.declared.tree.When.TheVariants.{Always, First, Following}
-use Rattle.smv_text.specs.Tree.{Tree, truth, number, literal, name, prefix, chain, choice, cases, select, call, next, set, range, Trees, no_trees, tree, PlainDomain, instance, PlainItem, PlainAssignment, PlainElement, vars, defines, constants, assigns, init, trans, invar, spec, PlainModule, PlainSource}
+use Rattle.smv_text.specs.Tree.{Tree, truth, number, literal, name, prefix, chain, choice, cases, select, call, next, set, range, Trees, no_trees, tree, PlainDomain, instance, PlainItem, PlainAssignment, PlainElement, vars, defines, constants, assigns, init, trans, invar, spec, PlainModule, PlainSource, PlainDefinition}
 use Rattle.smv_meaning.specs.Expressions.{paths_of, tree_paths}
 use Rattle.smv_meaning.specs.Instances.{Instance, dotted, is_one_of, module_named, modules_above, main_name, instances_of, weight_of}
 use Rattle.smv_meaning.specs.Names.{Local, alias, body_of, local, parent_of, trees_in, Found, variable_at, instance_at, none, look, found_in, steps_of, has_symbol}
@@ -341,3 +341,12 @@ IsAccepted source needed = IsTrue (passes (checks_of source needed))
 
 abbrev pub first_refusal : PlainSource → ℕ → Option Refusal
 first_refusal source needed = first_failing (checks_of source needed)
+
+abbrev pub parameter_declared : Parameter → Declared
+parameter_declared q = record { name = q.name; place = q.place; item = None }
+
+abbrev pub item_declared : PlainItem → Declared
+item_declared i = record { name = i.name; place = i.place; item = Some i }
+
+abbrev pub definition_declared : PlainDefinition → Declared
+definition_declared d = record { name = d.name; place = d.place; item = None }

@@ -3,3 +3,4 @@ pub mod Booleans
 pub mod WordLemmas
 pub mod Lists
 pub mod Plain
+pub mod Composing

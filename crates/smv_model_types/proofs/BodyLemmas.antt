@@ -7,12 +7,11 @@ use Rattle.text_core.specs.declared.end.End.TheVariants.{Bad, NoMemory}
 use Rattle.text_core.specs.declared.place.Refusal.{Refusal}
 use Rattle.smv_text.specs.declared.tree.Path.{Path}
 use Rattle.smv_text.specs.Tree.{Tree, truth, number, literal, name, prefix, chain, choice, cases, select, call, next, set, range}
-use Rattle.smv_meaning.specs.Checks.{first_failing, Position, Named, Typing, typing}
+use Rattle.smv_meaning.specs.Checks.{first_failing, Position, Named, Typing, typing, IsBad}
 use Rattle.smv_meaning.specs.Expressions.{paths_of}
 use Rattle.smv_meaning.specs.Orders.{RefusedHaveNoType, SameOn, TypesHangOnPaths}
 use Rattle.smv_intervals.specs.declared.types.Ty.{Ty}
 use Rattle.smv_intervals.specs.View.{seen}
-use Rattle.smv_types.specs.Outcome.{IsBad}
 use Rattle.smv_meaning.specs.Naming.{in_body}
 use Rattle.smv_meaning.specs.Phases.{actual_typing}
 use Rattle.smv_names.specs.Outcome.{Settles}

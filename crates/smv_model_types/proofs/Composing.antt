@@ -4,10 +4,9 @@ use Rattle.std.specs.Prelude.{slice_index_or}
 use Rattle.text_core.specs.declared.end.End.{End}
 use Rattle.text_core.specs.declared.place.Place.{Place}
 use Rattle.text_core.specs.declared.place.Refusal.{Refusal}
-use Rattle.smv_meaning.specs.Checks.{Check, check, first_failing}
-use Rattle.smv_names.specs.Outcome.{IsBad}
-use Rattle.smv_names.specs.laws.Composing.{ends, goes}
+use Rattle.smv_meaning.specs.Checks.{Check, check, first_failing, IsBad}
 use Rattle.smv_meaning.specs.laws.Lists.{front_is}
+use Rattle.smv_meaning.specs.laws.Composing.{goes, ends}
 
 -- a list's first element from a place on, and those behind it
 pub rest_goes : {X Y : Type 0} (f : Y → List Check) (g : X → Y) (xs : List X) (k n : ℕ) (x : X) (whole : Option Refusal) → n ≡ length xs → k < n → x ≡ slice_index_or xs k x → first_failing (f (g x)) ≡ None

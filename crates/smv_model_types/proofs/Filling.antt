@@ -1,7 +1,7 @@
 -- How the entries are filled: what is put into them is right, and at the end they have all.
 use Rattle.std.proofs.Common.{◌≡◌, ℕ, Bool, true, false, ◌&&◌, ◌||◌, ◌==◌, if◌then◌else◌, List, [], ◌∷◌, ◌++◌, map, Option, Some, None, is_some, bytes_eq, flat_map, refl, sym, ap, ◌∙◌, subst}
 use Rattle.std.specs.List.{list_all, list_any, position}
-use Rattle.std.proofs.lemmas.Bool.{eqb-true, eq-eqb}
+use Rattle.std.proofs.lemmas.Bool.{eq-eqb}
 use Rattle.std.proofs.lemmas.Slice.Eq.{bytes_eq-Decides}
 use Rattle.std.proofs.lemmas.List.Folds.{list_all-append, list_any-append}
 use Rattle.smv_text.specs.declared.tree.Path.{Path}
@@ -20,6 +20,7 @@ use Rattle.smv_meaning.specs.Orders.{numbered, is_listed, SameOn, TypesHangOnPat
 use Rattle.smv_model_types.specs.Entries.{Entries, nameless, or_unnamed, variable_or, found_or, entry_or, entries_step, entries_walk, entries_single, entries_through, entries_names, HasEach, alias_put, put_for, variable_put, or_else, Becomes, IsPut, Right, IsEntered, Has}
 use Rattle.smv_meaning.specs.laws.Booleans.{absurd_bool}
 use Rattle.smv_model_types.proofs.Targets.{name_looked}
+use Rattle.smv_laws.proofs.Cycles.{same_is}
 
 -- ---- tests
 
@@ -30,13 +31,6 @@ both_true false b h = absurd_bool h
 two_true : (a b : Bool) → a ≡ true → b ≡ true → (a && b) ≡ true
 two_true true b h k = k
 two_true false b h k = absurd_bool h
-
-same_is : (k m : Body) → body_same k m ≡ true → k ≡ m
-same_is k m h =
-    let b = both_true (k.0 == m.0) (bytes_eq k.1 m.1) h in
-    let first : (k.0, k.1) ≡ (m.0, k.1) = ap (λ (i : ℕ). (i, k.1)) (eqb-true k.0 m.0 b.0) in
-    let second : (m.0, k.1) ≡ (m.0, m.1) = ap (λ (x : List ℕ). (m.0, x)) ((bytes_eq-Decides k.1 m.1).0 b.1) in
-    first ∙ second
 
 -- what the types are
 abbrev pub meaning : List Instance → Found → Named

@@ -6,11 +6,10 @@ use Rattle.text_core.specs.declared.place.Place.{Place}
 use Rattle.smv_text.specs.Tree.{Tree, name, PlainDomain, PlainDefinition, PlainItem}
 use Rattle.smv_text.specs.declared.tree.Path.{Path}
 use Rattle.smv_meaning.specs.Types.{domain_type}
-use Rattle.smv_meaning.specs.Checks.{Check, first_failing, Named, Typing, typing, domain_checks}
+use Rattle.smv_meaning.specs.Checks.{Check, first_failing, Named, Typing, typing, domain_checks, IsBad}
 use Rattle.smv_meaning.specs.Naming.{in_body}
 use Rattle.smv_intervals.specs.declared.types.Ty.{Ty}
 use Rattle.smv_intervals.specs.View.{seen}
-use Rattle.smv_names.specs.Outcome.{IsBad}
 use Rattle.smv_meaning.specs.Instances.{Instance}
 use Rattle.smv_model_types.specs.declared.types.Types.{Types}
 use Rattle.smv_model_types.specs.Entries.{entries_seen, HasEach}

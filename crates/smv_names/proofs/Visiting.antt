@@ -2,11 +2,10 @@
 use Rattle.std.proofs.Common.{◌≡◌, ℕ, suc, ◌-◌, ◌<◌, List, [], ◌∷◌, ◌++◌, None, append_assoc, refl, sym, ap, ◌∙◌, subst, arith}
 use Rattle.text_core.specs.declared.end.End.{End}
 use Rattle.smv_text.specs.Tree.{PlainModule}
-use Rattle.smv_meaning.specs.Checks.{first_failing}
+use Rattle.smv_meaning.specs.Checks.{first_failing, IsBad}
 use Rattle.smv_meaning.specs.Phases.{Declared, declared_in, declared_checks, counted_all}
-use Rattle.smv_names.specs.Outcome.{IsBad}
 use Rattle.smv_names.specs.Visits.{Visit, declared_visits, visits, visit_checks, visit_count}
-use Rattle.smv_names.specs.laws.Composing.{goes, ends}
+use Rattle.smv_meaning.specs.laws.Composing.{goes, ends}
 
 pub checks_append : (ms : List PlainModule) (met : ℕ) (vs ws : List Visit) → visit_checks ms met (vs ++ ws) ≡ visit_checks ms met vs ++ visit_checks ms (visit_count met vs) ws
 checks_append ms met [] ws = refl

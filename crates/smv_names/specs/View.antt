@@ -2,8 +2,7 @@
 use Rattle.std.specs.Prelude.{ℕ, List, map, reverse, Option, Some, None}
 use Rattle.std.specs.Borrow.{Bor}
 use Rattle.smv_text.specs.declared.tree.Item.{Item}
-use Rattle.smv_text.specs.declared.tree.Parameter.{Parameter}
-use Rattle.smv_text.specs.Tree.{PlainItem, PlainDefinition}
+use Rattle.smv_text.specs.Tree.{PlainItem}
 use Rattle.smv_text.specs.View.{plain_item}
 use Rattle.smv_meaning.specs.Phases.{Declared}
 use Rattle.smv_names.specs.declared.declared.Declaration.{Declaration}
@@ -14,15 +13,6 @@ item_or_none (Some i) = Some (plain_item i.now)
 
 abbrev pub declared_plain : Declaration → Declared
 declared_plain d = record { name = d.name.now; place = d.place; item = item_or_none d.item }
-
-abbrev pub parameter_declared : Parameter → Declared
-parameter_declared q = record { name = q.name; place = q.place; item = None }
-
-abbrev pub item_declared : PlainItem → Declared
-item_declared i = record { name = i.name; place = i.place; item = Some i }
-
-abbrev pub definition_declared : PlainDefinition → Declared
-definition_declared d = record { name = d.name; place = d.place; item = None }
 
 -- the names of modules that stand one inside another, the innermost first
 abbrev pub names_above : List (Bor (List ℕ)) → List (List ℕ)

@@ -1,8 +1,8 @@
 // The declarations of a module, in the order of their checks.
 ghost use Rattle.std.specs.Prelude.{◌≡◌, ◌++◌, ◌∷◌, [], map, flat_map, IfOk, OnOk};
 ghost use Rattle.smv_text.specs.View.{plain_item, plain_definition, plain_element, plain_module};
-ghost use Rattle.smv_meaning.specs.Phases.{element_declares, declared_in};
-ghost use Rattle.smv_names.specs.View.{declared_plain, parameter_declared, item_declared, definition_declared};
+ghost use Rattle.smv_meaning.specs.Phases.{element_declares, declared_in, parameter_declared, item_declared, definition_declared};
+ghost use Rattle.smv_names.specs.View.{declared_plain};
 
 use smv_text::{Definitions, Element, Elements, Item, Items, Module, Parameters};
 use std::alloc::Global;

@@ -11,7 +11,7 @@ use Rattle.smv_meaning.specs.Phases.{Body, body_here, from_instance, path_bodies
 use Rattle.smv_meaning.specs.Bodies.{bodies_of, number_or, path_numbers, all_path_numbers, instance_within, references_of}
 use Rattle.smv_meaning.specs.Settled.{has_body}
 use Rattle.smv_laws.proofs.Ranked.{no_reference}
-use Rattle.smv_references.proofs.BodyLemmas.{append_none}
+use Rattle.text_core.proofs.ListLaws.{append_none}
 
 abbrev pub here_numbers : List Instance → ℕ → List ℕ → List ℕ
 here_numbers t i x = map (number_or (bodies_of t)) (body_here i x (local t i x))

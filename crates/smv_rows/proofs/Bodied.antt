@@ -19,7 +19,7 @@ use Rattle.smv_flat_laws.specs.FlatOrders.{Bodies, IsAmong, ComeFrom, holds_body
 use Rattle.smv_rows.specs.Filling.{bodies_in}
 use Rattle.smv_rows.specs.RowOrders.{IsRoleBody, HaveBodies, Extends, CanAdd, Added, VariablesAreFree, AreItemBodies, IsOrderOf}
 use Rattle.smv_rows.proofs.Sets.{own}
-use Rattle.digraph.proofs.Lists.{not_true}
+use Rattle.text_core.proofs.Truths.{not_true}
 
 pub role_on : (old new : Bodies) → Extends old new → (r : Role) (e : FlatTree) → IsRoleBody old r e → IsRoleBody new r e
 role_on old new h (Body k) e b = h k e b

@@ -20,9 +20,10 @@ use Rattle.smv_flat_laws.specs.FlatTruth.{Row, symbol_value, form_denotes, Gives
 use Rattle.smv_flat_laws.specs.FlatOrders.{all_read, Bodies, is_variable, body_reads, is_settled, AllOccur}
 use Rattle.smv_rows.specs.Filling.{with_body, filled}
 use Rattle.smv_rows.specs.RowOrders.{IsRoleBody, HaveBodies, VariablesAreFree}
-use Rattle.smv_rows.proofs.Sets.{same, own}
+use Rattle.smv_rows.proofs.Sets.{own}
 use Rattle.smv_rows.proofs.Agreeing.{denote_same}
-use Rattle.digraph.proofs.Lists.{not_true}
+use Rattle.text_core.proofs.Truths.{not_true}
+use Rattle.digraph.proofs.Lists.{same}
 
 pub or_false : (a b : Bool) → (a || b) ≡ false → (a ≡ false) × (b ≡ false)
 or_false true b h = cc

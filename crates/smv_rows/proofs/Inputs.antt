@@ -10,8 +10,9 @@ use Rattle.smv_operators.specs.View.{seen_value}
 use Rattle.smv_flat_evaluation.specs.RowValues.{row_values}
 use Rattle.smv_rows.specs.Relabelling.{input_or}
 use Rattle.smv_rows.specs.RowOrders.{is_input}
-use Rattle.smv_rows.proofs.Sets.{same, own}
+use Rattle.smv_rows.proofs.Sets.{own}
 use Rattle.smv_rows.proofs.VariableRows.{set_same, set_other}
+use Rattle.digraph.proofs.Lists.{same}
 
 -- one item that is set, and the others
 pub one_set : (m : FlatItem) (xs : List Seen) (k : ℕ) (v : Seen) (w : Value) → k < length xs → seen_value v ≡ w → is_input m.kind ≡ true

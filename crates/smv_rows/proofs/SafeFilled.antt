@@ -11,7 +11,7 @@ use Rattle.smv_flat_laws.specs.FlatOrders.{Bodies, body_reads, is_settled, IsAmo
 use Rattle.smv_rows.specs.Filling.{with_body, filled, BodySafe, FillsSafely}
 use Rattle.smv_rows.proofs.Filled.{filled_out}
 use Rattle.smv_rows.proofs.SafeAgreeing.{safe_same}
-use Rattle.digraph.proofs.Lists.{not_true}
+use Rattle.text_core.proofs.Truths.{not_true}
 
 pub among_safe : (flat : PlainFlat) (now later : Row) (fs : List Form) → FormsSafe flat now later fs → (k : ℕ) (e : FlatTree) → IsAmong k e fs → FlatSafe (symbol_value flat.symbols) now later e
 among_safe flat now later [] s k e i = absurd i

@@ -5,9 +5,6 @@ use Rattle.std.specs.List.{slice_get}
 use Rattle.std.proofs.lemmas.List.{get_or-set_same, get_or-set_other, length-set}
 use Rattle.std.proofs.lemmas.Option.{slice_get-get_or, slice_get_past}
 
-pub same : (a b : ℕ) → (a == b) ≡ true → a ≡ b
-same a b h = search rules
-
 pub own : (a : ℕ) → (a == a) ≡ true
 own a = search rules
 

@@ -18,7 +18,8 @@ use Rattle.smv_flat_evaluation.specs.RowValues.{seen_or_none, row_values}
 use Rattle.smv_rows.specs.Filling.{with_body}
 use Rattle.smv_rows.specs.Places.{kind_and_place, item_place, NamesHave, value_of_kind, given_value}
 use Rattle.smv_rows.specs.declared.places.ItemPlace.{ItemPlace}
-use Rattle.smv_rows.proofs.Sets.{same, get_set_same, get_set_other}
+use Rattle.smv_rows.proofs.Sets.{get_set_same, get_set_other}
+use Rattle.digraph.proofs.Lists.{same}
 
 kind_given : (names : List (List ℕ)) (s l : Valuation) (state label : List Seen) → NamesHave names s state → NamesHave names l label → (x : List ℕ) (p : ℕ) → place_of names x ≡ Some p
     → (v : Value) (kind : ItemKind) → v ≡ value_of_kind state label p kind → GivesKind s l x v kind

@@ -17,17 +17,9 @@ use Rattle.moxi_terms.specs.declared.data.TermOp.TheVariants as op
 use Rattle.moxi_terms.specs.Operators.{nothing}
 use Rattle.moxi_terms.specs.Tree.{Tree, constant, bound, apply, binding, Trees, no_trees, tree}
 use Rattle.smv_script.specs.Codes.{integer_word}
+use Rattle.moxi_terms.specs.Applications.{one, two, words_term, equal_term, choice_term}
 
 -- ---- applications
-
-abbrev pub one : Tree → Trees
-one a = tree a no_trees
-
-abbrev pub two : Tree → Tree → Trees
-two a b = tree a (one b)
-
-abbrev pub three : Tree → Tree → Tree → Trees
-three a b c = tree a (two b c)
 
 -- a word of so many digits, and an integer in so many digits
 abbrev pub word_term : ℕ → ℕ → Tree
@@ -38,15 +30,6 @@ integer_term width z = constant (datum.Bits (integer_word width z))
 
 abbrev pub not_term : Tree → Tree
 not_term a = apply op.Not (one a)
-
-abbrev pub equal_term : Tree → Tree → Tree
-equal_term a b = apply op.Equal (two a b)
-
-abbrev pub choice_term : Tree → Tree → Tree → Tree
-choice_term c a b = apply op.Ite (three c a b)
-
-abbrev pub words_term : Binary → Tree → Tree → Tree
-words_term o a b = apply (op.BvBinary o) (two a b)
 
 -- one part is itself
 abbrev pub any_term : Trees → Tree

@@ -22,12 +22,13 @@ use Rattle.moxi_terms.specs.declared.data.Datum.TheVariants as datum
 use Rattle.moxi_terms.specs.declared.data.TermOp.TheVariants as op
 use Rattle.moxi_terms.specs.declared.term.Variable.{Variable}
 use Rattle.moxi_terms.specs.declared.term.Enumeration.{Enumeration}
-use Rattle.moxi_terms.specs.Tree.{Tree, constant, variable, apply, trees_of}
+use Rattle.moxi_terms.specs.Tree.{Tree, constant, variable, trees_of}
 use Rattle.moxi_scripts.specs.declared.script.Query.{Query}
-use Rattle.moxi_scripts.specs.Script.{PlainSystem, PlainFormula, PlainCheck, PlainScript}
+use Rattle.moxi_scripts.specs.Script.{PlainSystem, PlainFormula, PlainCheck, PlainScript, query_of}
 use Rattle.smv_script.specs.Codes.{symbol_datum, sort_of}
-use Rattle.smv_script.specs.Operators.{integer_term, between_term, equal_term, not_term, any_term}
+use Rattle.smv_script.specs.Operators.{integer_term, between_term, not_term, any_term}
 use Rattle.smv_script.specs.Terms.{Coding, translation}
+use Rattle.moxi_terms.specs.Applications.{equal_term, all_term}
 
 -- ---- variables: inputs, then state and frozen variables, then definitions and actuals, each in flat order
 
@@ -84,12 +85,6 @@ abbrev pub coding_of : PlainFlat → ℕ → Coding
 coding_of flat width = record { width = width; place = place_of_item flat.items }
 
 -- ---- parts of the formulas
-
--- no part is true, one part is itself
-abbrev pub all_term : List Tree → Tree
-all_term [] = constant (datum.Truth true)
-all_term (t ∷ []) = t
-all_term (t ∷ u ∷ ts) = apply op.And (trees_of (t ∷ u ∷ ts))
 
 abbrev pub member_term : ℕ → List (List ℕ) → Tree → Member → Tree
 member_term width symbols x (OfMember.Symbol s) = equal_term x (constant (symbol_datum symbols s))
@@ -190,9 +185,6 @@ system_of flat width = record {
 abbrev pub reachables_from : Coding → ℕ → List FlatTree → List PlainFormula
 reachables_from c j [] = []
 reachables_from c j (e ∷ es) = record { name = codes "r." ++ decimal j; term = not_term ((translation c e).term 0) } ∷ reachables_from c (j + 1) es
-
-abbrev pub query_of : ℕ → Query
-query_of j = record { name = codes "q." ++ decimal j; assumptions = []; currents = []; reachables = j ∷ [] }
 
 abbrev pub queries_from : ℕ → List FlatTree → List Query
 queries_from j [] = []

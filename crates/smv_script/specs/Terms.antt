@@ -11,7 +11,8 @@ use Rattle.moxi_terms.specs.declared.data.Datum.TheVariants as datum
 use Rattle.moxi_terms.specs.Operators.{nothing}
 use Rattle.moxi_terms.specs.Tree.{Tree, constant, variable, apply, Trees, no_trees, tree}
 use Rattle.smv_script.specs.Codes.{number_or_zero}
-use Rattle.smv_script.specs.Operators.{integer_term, equal_term, choice_term, any_term, sign_op, repeated, infix_op, joins_with, infix_term, front_width, link_term, selected_term, Arguments, function_term, between_term, among_term}
+use Rattle.smv_script.specs.Operators.{integer_term, any_term, sign_op, repeated, infix_op, joins_with, infix_term, front_width, link_term, selected_term, Arguments, function_term, between_term, among_term}
+use Rattle.moxi_terms.specs.Applications.{equal_term, choice_term}
 
 -- ---- operands
 

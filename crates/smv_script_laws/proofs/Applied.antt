@@ -1,9 +1,8 @@
 -- Applications whose arguments have their sorts can appear where nothing has an operator's name.
-use Rattle.std.proofs.Common.{◌≡◌, ℕ, zero, suc, ◌+◌, ◌-◌, ◌^◌, ◌<◌, ◌≤◌, Bool, true, false, cond, nat_le, nat_lt, ◌==◌, ◌&&◌, if◌then◌else◌, ℤ, pos, negsuc, List, [], ◌∷◌, length, Option, Some, None, Ok, Err, option_map, refl, ap, ◌∙◌, subst, arith}
+use Rattle.std.proofs.Common.{◌≡◌, ℕ, zero, suc, ◌+◌, ◌-◌, ◌^◌, ◌<◌, ◌≤◌, Bool, true, false, nat_le, nat_lt, ◌==◌, ◌&&◌, if◌then◌else◌, ℤ, pos, negsuc, List, [], ◌∷◌, length, Some, Ok, Err, option_map, refl, ap, subst, arith}
 use Rattle.std.proofs.lemmas.Bool.{eqb-true, lt-ltb, le-leb, ltb-true, ltb-false}
 use Rattle.std.proofs.lemmas.Nat.{pow_pos}
 use Rattle.std.proofs.Math.Nat.{mod-lt}
-use Rattle.std.specs.List.{list_all}
 use Rattle.text_core.specs.declared.place.Kind.TheVariants.{M}
 use Rattle.word_core.specs.declared.word.TheConstants.{WIDEST}
 use Rattle.word_core.specs.declared.kinds.Unary.TheVariants as OnWord
@@ -20,36 +19,18 @@ use Rattle.moxi_terms.specs.declared.term.Enumeration.{Enumeration}
 use Rattle.moxi_terms.specs.declared.names.Head.TheVariants as heads
 use Rattle.moxi_terms.specs.Words.{operators, operator_named}
 use Rattle.moxi_terms.specs.Meanings.{head_named}
-use Rattle.moxi_terms.specs.Sorts.{same_sort, common, count_fits, logical, compared, chosen, calculated, fitting, op_sort}
+use Rattle.moxi_terms.specs.Sorts.{common, count_fits, logical, calculated, fitting, op_sort}
 use Rattle.moxi_terms.specs.Tree.{Tree, constant, apply, Trees, no_trees, tree}
 use Rattle.moxi_term_reading.specs.declared.locals.Local.{Local}
 use Rattle.moxi_term_reading.specs.Reading.{Context}
 use Rattle.moxi_term_print.specs.Terms.{operator_word, binary_word}
 use Rattle.moxi_term_print.specs.WellScoped.{IsWellScoped, AreWellScoped, IsKnownOperator}
 use Rattle.smv_script.specs.Codes.{integer_bits}
-use Rattle.smv_script.specs.Operators.{one, two, word_term, integer_term, equal_term, choice_term, words_term, any_term, not_term, extended_term, selected_term, resized_term, repeated, between_term}
-use Rattle.moxi_term_print.proofs.SortedTerms.{copies, counted, same_self, two_fit}
+use Rattle.smv_script.specs.Operators.{word_term, integer_term, any_term, not_term, extended_term, selected_term, resized_term, repeated, between_term}
+use Rattle.moxi_term_print.proofs.SortedTerms.{copies, counted, common_copies, words_sort, equal_sort, choice_sort}
+use Rattle.moxi_terms.specs.Applications.{one, two, words_term, equal_term, choice_term}
 
 -- ---- sorts of applications
-
-all_same : (s : Sort) (ts : Trees) → list_all (same_sort s) (copies s ts) ≡ true
-all_same s no_trees = refl
-all_same s (tree t ts) = two_true (same_sort s s) (list_all (same_sort s) (copies s ts)) (same_self s) (all_same s ts)
-
-pub common_copies : (s : Sort) (ts : Trees) → common (s ∷ copies s ts) ≡ Some s
-common_copies s ts = ap (λ b. cond b (Some s) None) (all_same s ts)
-
-pub common_two : (s : Sort) → common (s ∷ s ∷ []) ≡ Some s
-common_two s = ap (λ b. cond b (Some s) None) (two_true (same_sort s s) true (same_self s) refl)
-
-pub words_sort : (b : Binary) (m : ℕ) (z : Sort) → calculated b (Some (Bits m)) ≡ Ok z → op_sort (op.BvBinary b) (Bits m ∷ Bits m ∷ []) ≡ Ok z
-words_sort b m z e = counted (op.BvBinary b) (Bits m ∷ Bits m ∷ []) z (two_fit b) (ap (calculated b) (common_two (Bits m)) ∙ e)
-
-pub equal_sort : (s : Sort) → op_sort op.Equal (s ∷ s ∷ []) ≡ Ok Truth
-equal_sort s = ap (λ (o : Option Sort). compared o) (common_two s)
-
-pub choice_sort : (s : Sort) → op_sort op.Ite (Truth ∷ s ∷ s ∷ []) ≡ Ok s
-choice_sort s = ap (λ (o : Option Sort). chosen o) (common_two s)
 
 -- ---- operators mean what their names say
 

@@ -1,5 +1,5 @@
 -- What the checks of a model give for each item, and the formula of each body.
-use Rattle.std.proofs.Common.{◌≡◌, ℕ, zero, suc, ◌+◌, ◌≤◌, Bool, true, false, ◌&&◌, if◌then◌else◌, List, [], ◌∷◌, ◌++◌, map, flat_map, length, Some, None, refl, sym, ◌∙◌, subst, arith}
+use Rattle.std.proofs.Common.{◌≡◌, ℕ, zero, suc, ◌+◌, ◌≤◌, Bool, true, ◌&&◌, List, [], ◌∷◌, ◌++◌, map, flat_map, length, Some, refl, sym, ◌∙◌, subst, arith}
 use Rattle.std.specs.List.{slice_get, list_all, AllByRecursion}
 use Rattle.std.proofs.lemmas.List.Folds.{list_all-append}
 use Rattle.smv_text.specs.declared.tree.Path.{Path}
@@ -19,7 +19,7 @@ use Rattle.smv_meaning.specs.Literals.{words_fit}
 use Rattle.smv_meaning.specs.Parts.{expressions_in}
 use Rattle.smv_meaning.specs.Settled.{types_in}
 use Rattle.smv_meaning.specs.Checked.{instance_all, all_trees}
-use Rattle.smv_meaning.specs.laws.Booleans.{both_true, absurd_bool}
+use Rattle.smv_meaning.specs.laws.Booleans.{both_true}
 use Rattle.smv_laws.proofs.Cycles.{in_left, in_right}
 use Rattle.smv_laws.proofs.Agreeing.{more_paths, paths_before}
 use Rattle.smv_laws.proofs.FoundLaws.{there}
@@ -30,7 +30,9 @@ use Rattle.smv_flat.specs.FlatForms.{Form, content_form, body_forms, element_for
 use Rattle.smv_flat_laws.proofs.FlatRows.{AllFrom}
 use Rattle.smv_width.specs.FlatWidth.{tree_width, forms_width}
 use Rattle.smv_width.specs.SourceWidth.{has_operators}
-use Rattle.smv_accepted.proofs.Fitting.{IsRest, rest_more, rest_first, rest_all}
+use Rattle.smv_accepted.proofs.Fitting.{rest_first, rest_all}
+use Rattle.smv_laws.proofs.TypeLaws.{if_type}
+use Rattle.smv_laws.proofs.Rests.{IsRest, rest_more}
 
 -- ---- lists
 
@@ -65,10 +67,6 @@ IsGood t (actual j e) = IsBody t j e
 
 abbrev pub OriginIsGood : List Instance → Origin → Type 0
 OriginIsGood t m = IsGood t m.content
-
-if_type : (b : Bool) (d : PlainDomain) → b ≡ true → HasType (domain_type d) → HasType (if b then domain_type d else None)
-if_type true d b h = h
-if_type false d b h = absurd_bool b
 
 module _ (t : List Instance) where
   variable_good : (i : ℕ) (kind : VarKind) (x : List ℕ) (d : PlainDomain) → ((((is_unmixed d && on_type (domain_type d) in_limit) && has_width d) && has_order d) ≡ true)

@@ -1,8 +1,7 @@
 -- The least number of tokens of declarations and sections, without those of actuals, and of the actuals of their instances.
 use Rattle.std.proofs.Common.{◌≡◌, ℕ, ◌+◌, ◌*◌, ◌≤◌, Bool, true, false, List, [], ◌∷◌, ◌++◌, length, length-append, Option, Some, None, refl, ap, ◌∙◌, arith}
-use Rattle.std.specs.Prelude.{flat_map, sum_by, if◌then◌else◌, nat_le}
+use Rattle.std.specs.Prelude.{flat_map, if◌then◌else◌, nat_le}
 use Rattle.std.specs.List.{AllByRecursion}
-use Rattle.std.proofs.lemmas.List.Sums.{sum_by-cons}
 use Rattle.std.proofs.lemmas.Bool.{leb-true}
 use Rattle.text_core.specs.declared.place.Place.{Place}
 use Rattle.smv_text.specs.declared.token.Token.{Token}
@@ -14,20 +13,9 @@ use Rattle.smv_text.specs.Sources.{SpellsActuals, no_actuals, empty_actuals, act
 use Rattle.smv_script_laws.proofs.Measures.{fewest, fewest_parts}
 use Rattle.smv_script_laws.proofs.Chains.{Sized, PartsSized, none_listed, one_listed}
 use Rattle.smv_script_laws.proofs.Expressions.{integer_length, spelled, spelled_parts}
+use Rattle.smv_items.specs.laws.Counting.{total}
 
 -- ---- sums
-
-abbrev pub total {ℓ} : {X : Type ℓ} → (X → ℕ) → List X → ℕ
-total f [] = 0
-total f (x ∷ xs) = f x + total f xs
-
-pub total_append : {X : Type 0} (f : X → ℕ) (xs ys : List X) → total f (xs ++ ys) ≡ total f xs + total f ys
-total_append f [] ys = omega arith
-total_append f (x ∷ xs) ys = let i = total_append f xs ys in omega (arith, i)
-
-pub total_is : {X : Type 0} (f : X → ℕ) (xs : List X) → sum_by f xs ≡ total f xs
-total_is f [] = refl
-total_is f (x ∷ xs) = sum_by-cons f x xs ∙ ap (λ n. f x + n) (total_is f xs)
 
 pub all_append : {X : Type 0} (P : X → Type 0) (xs ys : List X) → AllByRecursion P xs → AllByRecursion P ys → AllByRecursion P (xs ++ ys)
 all_append P [] ys p q = q

@@ -5,7 +5,7 @@ use Rattle.std.specs.Prelude.{codes}
 use Rattle.std.specs.List.{slice_get, AllByRecursion}
 use Rattle.std.proofs.lemmas.List.{length-map}
 use Rattle.std.proofs.lemmas.Option.{slice_get-get_or}
-use Rattle.std.proofs.lemmas.Bool.{eq-eqb, eqb-true, le-leb, lt-ltb, ltb-true, ltb-false}
+use Rattle.std.proofs.lemmas.Bool.{eq-eqb, eqb-true, le-leb, lt-ltb, ltb-true, ltb-false, or_right}
 use Rattle.std.proofs.Math.Nat.{two-pow-succ}
 use Rattle.std.proofs.lemmas.List.Quantifiers.{position-Some}
 use Rattle.std.specs.Str.{bytes_eq}
@@ -51,7 +51,7 @@ use Rattle.smv_script_laws.specs.TermLaws.{IsDatum, AreDistinct}
 use Rattle.smv_script_laws.proofs.Integers.{bits_below, signed_back}
 use Rattle.smv_script_laws.proofs.Rows.{equal_row}
 use Rattle.smv_script_laws.proofs.Parts.{held_wider, known_kind, any_of, any_value}
-use Rattle.smv_flat_laws.proofs.FlatTruths.{and_true}
+use Rattle.text_core.proofs.Truths.{and_true}
 
 -- ---- sorts
 
@@ -239,10 +239,6 @@ same_self (Bits w) = two_true (w.width == w.width) (w.bits == w.bits) (eq-eqb w.
 or_left : (a b : Bool) → a ≡ true → (a || b) ≡ true
 or_left true b e = refl
 or_left false b e = cc
-
-or_right : (a b : Bool) → b ≡ true → (a || b) ≡ true
-or_right true b e = refl
-or_right false b e = e
 
 in_among : (m : Member) (ms : List Member) → In m ms → is_among ms (member_value m) ≡ true
 in_among m [] i = absurd i

@@ -33,7 +33,7 @@ use Rattle.smv_flat.specs.FlatForms.{Form, flat_in, content_form, body_forms, nu
 use Rattle.smv_flat_laws.proofs.FlatTruths.{all_parts, assignable, assigned_here}
 use Rattle.smv_width.specs.SourceWidth.{expression_width, has_operators, greatest, element_widths, actual_width, actual_widths, instance_widths}
 use Rattle.smv_script_laws.proofs.Bodies.{all_joined}
-use Rattle.smv_flat_laws.proofs.FlatStays.{IsRest, rest_more}
+use Rattle.smv_laws.proofs.Rests.{IsRest, rest_more}
 
 -- ---- small facts
 

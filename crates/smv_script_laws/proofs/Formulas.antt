@@ -16,12 +16,13 @@ use Rattle.smv_flat.specs.FlatForms.{Form, PlainFlat}
 use Rattle.smv_flat.specs.FlatTree.{FlatTree}
 use Rattle.moxi_terms.specs.Tree.{Tree, variable, trees_of}
 use Rattle.moxi_flat.specs.Terms.{term_size, terms_size}
-use Rattle.smv_script.specs.Operators.{equal_term, any_term}
-use Rattle.smv_script.specs.Script.{all_term, member_term, interval_parts, domain_parts, body_part, body_parts, invar_item, trans_item, item_parts, form_parts, numbered_parts, instance_parts, parts_upto, above_items, above_forms, formula_of}
+use Rattle.smv_script.specs.Operators.{any_term}
+use Rattle.smv_script.specs.Script.{member_term, interval_parts, domain_parts, body_part, body_parts, invar_item, trans_item, item_parts, form_parts, numbered_parts, instance_parts, parts_upto, above_items, above_forms, formula_of}
 use Rattle.smv_script.specs.Terms.{Coding, translation}
 use Rattle.smv_script_laws.proofs.Measures.{no_calls, Fits}
 use Rattle.smv_script_laws.proofs.SizedRows.{variable_leaf}
-use Rattle.smv_script_laws.proofs.Charges.{total, total_append}
+use Rattle.moxi_terms.specs.Applications.{equal_term, all_term}
+use Rattle.smv_items.specs.laws.Counting.{total, total_append}
 
 abbrev pub sizes : List Tree → ℕ
 sizes ts = total (term_size no_calls) ts

@@ -29,12 +29,13 @@ use Rattle.moxi_terms.specs.Tree.{Tree, bound, apply, Trees, no_trees, tree}
 use Rattle.moxi_terms.specs.Value.{Calls, Values, at, term_value, term_values}
 use Rattle.smv_width.specs.FlatWidth.{Holds}
 use Rattle.smv_script.specs.Codes.{integer_bits, integer_word, datum_of}
-use Rattle.smv_script.specs.Operators.{Arguments, one, words_term, integer_term, is_below, choice_term, counted_term, counted_terms, sum_term, extended_term, selected_term, resized_term, function_term}
+use Rattle.smv_script.specs.Operators.{Arguments, integer_term, is_below, counted_term, counted_terms, sum_term, extended_term, selected_term, resized_term, function_term}
 use Rattle.smv_script_laws.specs.Kinds.{IsOfKind}
 use Rattle.smv_script_laws.proofs.Integers.{bits_sum, bits_negated, signed_back}
-use Rattle.smv_flat_laws.proofs.FlatTruths.{and_true}
 use Rattle.smv_script_laws.proofs.Integers.{pick_true}
 use Rattle.smv_script_laws.proofs.Rows.{bit_is}
+use Rattle.text_core.proofs.Truths.{and_true}
+use Rattle.moxi_terms.specs.Applications.{one, words_term, choice_term}
 
 -- ---- what a `let` binds
 

@@ -6,7 +6,8 @@ use Rattle.std.specs.List.{AllByRecursion}
 use Rattle.smv_text.specs.Tree.{Tree as Expression, Trees as Expressions, PlainDomain, boolean, members, between, bits, instance, PlainItem, PlainElement, vars, defines, constants, assigns, init, trans, invar, spec, PlainModule, PlainSource}
 use Rattle.smv_meaning.specs.Instances.{Instance, module_named, placed, child_in, child_of, with_child, grow_items, grow_elements, grow, main_instance, grown_from, main_name, instances_of, weight_of}
 use Rattle.smv_script_laws.proofs.Measures.{fewest_parts}
-use Rattle.smv_script_laws.proofs.Charges.{total, total_append, total_is, all_append, domain_actuals, items_actuals, element_actuals, module_charge, EachPart, DomainEach, ItemsEach, ElementEach, ModuleEach, Weighs}
+use Rattle.smv_script_laws.proofs.Charges.{all_append, domain_actuals, items_actuals, element_actuals, module_charge, EachPart, DomainEach, ItemsEach, ElementEach, ModuleEach, Weighs}
+use Rattle.smv_items.specs.laws.Counting.{tokens, total, total_append, total_is}
 
 abbrev ModuleFits : (Expression → Type 0) → PlainModule → Type 0
 ModuleFits P m = Weighs m × ModuleEach P m
@@ -18,9 +19,6 @@ pub record InstanceFits (P : Expression → Type 0) (at : Instance) : Type 0 whe
 
 abbrev pub charges : List Instance → ℕ
 charges t = total (λ at. module_charge at.module + fewest_parts at.actuals) t
-
-abbrev tokens : List Instance → ℕ
-tokens t = total (λ at. at.module.tokens) t
 
 -- the list grew by instances that are charged so much more than their tokens
 record Grown (P : Expression → Type 0) (t u : List Instance) (more : ℕ) : Type 0 where

@@ -23,7 +23,6 @@ use Rattle.moxi_terms.specs.Tree.{Tree, variable as of_variable}
 use Rattle.moxi_terms.specs.Value.{Calls, Values, term_value}
 use Rattle.moxi_scripts.specs.Behaviour.{Holds}
 use Rattle.smv_script.specs.Codes.{datum_of}
-use Rattle.smv_script.specs.Operators.{equal_term}
 use Rattle.smv_script.specs.Terms.{Coding, translation}
 use Rattle.smv_script.specs.Script.{body_part, body_parts, invar_item, trans_item, item_parts}
 use Rattle.smv_script_laws.specs.TermLaws.{HasRow}
@@ -35,8 +34,9 @@ use Rattle.smv_script_laws.proofs.Members.{same_self, domain_holds}
 use Rattle.smv_script_laws.proofs.Premises.{Known}
 use Rattle.smv_script_laws.proofs.Targets.{index_below, item_width, origin_there, is_variable, variable_fits_at, variable_kind}
 use Rattle.smv_script_laws.proofs.Variables.{Fits}
-use Rattle.smv_flat_laws.proofs.FlatTruths.{and_true}
 use Rattle.smv_script_laws.proofs.Bodies.{all_joined}
+use Rattle.text_core.proofs.Truths.{and_true}
+use Rattle.moxi_terms.specs.Applications.{equal_term}
 
 -- ---- in each state
 

@@ -1,17 +1,14 @@
 -- The script of an accepted model none of whose expressions is too high passes no limit.
-use Rattle.std.proofs.Common.{◌≡◌, ℕ, suc, ◌+◌, ◌≤◌, cond, true, List, [], ◌∷◌, ◌++◌, length-append, sym, ◌∙◌, arith}
-use Rattle.std.specs.Prelude.{length, slice_get, nat_le, nat_lt}
-use Rattle.std.proofs.lemmas.Bool.{leb-true}
+use Rattle.std.proofs.Common.{◌≡◌, ℕ, suc, ◌+◌, ◌≤◌, cond, List, [], ◌∷◌, ◌++◌, length-append, arith}
+use Rattle.std.specs.Prelude.{length}
 use Rattle.std.proofs.lemmas.List.{length-map}
-use Rattle.std.proofs.lemmas.List.Folds.{list_all-append}
 use Rattle.text_core.specs.declared.place.Place.{Place}
 use Rattle.smv_text.specs.declared.token.Token.{Token}
 use Rattle.smv_text.specs.Tree.{PlainSource}
 use Rattle.smv_text.specs.Sources.{SpellsSource}
-use Rattle.smv_meaning.specs.Instances.{instances_of, weight_of}
-use Rattle.smv_meaning.specs.Checks.{Check, check, passes}
-use Rattle.smv_meaning.specs.Phases.{module_checks, declaration_checks, size_checks, symbol_checks, later_checks, most_tokens, invariants_in, IsAccepted}
-use Rattle.smv_meaning.specs.laws.Booleans.{both_true}
+use Rattle.smv_meaning.specs.Instances.{instances_of}
+use Rattle.smv_meaning.specs.Checks.{passes}
+use Rattle.smv_meaning.specs.Phases.{most_tokens, IsAccepted}
 use Rattle.smv_items.specs.FlatItems.{PlainFlatItem, symbols_of}
 use Rattle.smv_flat.specs.FlatForms.{flat_smv}
 use Rattle.smv_script.specs.Script.{Group, inputs, outputs, locals, group_of, items_in, same_group, variable_of, variables_in}
@@ -20,23 +17,7 @@ use Rattle.smv_script_laws.proofs.SymbolCounts.{symbols_by_weight}
 use Rattle.smv_script_laws.proofs.Weights.{counts_by_weight, sizes_by_weight}
 use Rattle.smv_script_laws.proofs.Lows.{heights_are_low}
 use Rattle.smv_script_laws.proofs.Printed.{brackets_are_few}
-
-all_last : (cs ds : List Check) → passes (cs ++ ds) ≡ true → passes ds ≡ true
-all_last cs ds h = (both_true (passes cs) (passes ds) (sym (list_all-append (λ (c : Check). c.holds) cs ds) ∙ h)).1
-
-all_first : (cs ds : List Check) → passes (cs ++ ds) ≡ true → passes cs ≡ true
-all_first cs ds h = (both_true (passes cs) (passes ds) (sym (list_all-append (λ (c : Check). c.holds) cs ds) ∙ h)).0
-
--- an accepted model isn't too heavy
-weight_fits : (source : PlainSource) (needed : ℕ) → IsAccepted source needed → weight_of source ≤ most_tokens
-weight_fits source needed h =
-    let t = instances_of source in
-    let last = check 27 source.end (nat_lt needed (length (invariants_in t))) ∷ [] in
-    let before = module_checks source ++ declaration_checks source.modules t 0 1 t in
-    let a = all_first (before ++ size_checks source ++ later_checks t) last h in
-    let b = all_first (before ++ size_checks source) (later_checks t) a in
-    let c = all_last before (size_checks source) b in
-    leb-true (weight_of source) most_tokens (both_true (nat_le (weight_of source) most_tokens) (passes (symbol_checks t (slice_get t 0))) c).0
+use Rattle.smv_items.specs.laws.Counting.{weight_fits}
 
 pub scripts_are_small : ScriptsAreSmall
 scripts_are_small source end xs s needed h l w =

@@ -26,16 +26,17 @@ use Rattle.moxi_terms.specs.Tree.{Tree, variable, trees_of}
 use Rattle.moxi_scripts.specs.Script.{PlainFormula}
 use Rattle.moxi_flat.specs.Terms.{term_height, terms_height}
 use Rattle.moxi_flat.specs.Systems.{formulas_height, script_height}
-use Rattle.smv_script.specs.Operators.{equal_term}
-use Rattle.smv_script.specs.Script.{all_term, member_term, domain_parts, body_part, body_parts, invar_item, trans_item, item_parts, form_parts, numbered_parts, instance_parts, parts_upto, above_items, above_forms, formula_of, coding_of, reachables_from, script_of}
+use Rattle.smv_script.specs.Script.{member_term, domain_parts, body_part, body_parts, invar_item, trans_item, item_parts, form_parts, numbered_parts, instance_parts, parts_upto, above_items, above_forms, formula_of, coding_of, reachables_from, script_of}
 use Rattle.smv_script.specs.Terms.{Coding, translation}
 use Rattle.smv_script_laws.specs.BoundLaws.{HeightsAreLow}
-use Rattle.smv_script_laws.proofs.Measures.{fewest, no_calls, open_brackets, all_brackets, Inside, Together, Within, Fits}
+use Rattle.smv_script_laws.proofs.Measures.{fewest, no_calls, Inside, Together, Within, Fits}
 use Rattle.smv_script_laws.proofs.SizedRows.{variable_leaf, equal_inside, between_inside, any_inside}
 use Rattle.smv_script_laws.proofs.Chains.{Sized}
 use Rattle.smv_script_laws.proofs.Charges.{all_append, IsLow, EachPart, DomainEach, ElementEach, ModuleEach, Weighs, spelled_modules, low_modules}
 use Rattle.smv_script_laws.proofs.Instances.{source_fits}
 use Rattle.smv_script_laws.proofs.Prices.{HoldsOfForms, forms_all}
+use Rattle.moxi_terms.specs.Applications.{equal_term, all_term}
+use Rattle.moxi_script_print.proofs.Brackets.{open_brackets, all_brackets}
 
 -- a part of a formula
 pub record IsLowTerm (t : Tree) : Type 0 where

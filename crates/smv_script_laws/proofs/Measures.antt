@@ -1,9 +1,10 @@
 -- What bounds the terms that stand for an expression: the least number of its tokens, and its height.
 use Rattle.std.proofs.Common.{◌≡◌, ℕ, ◌+◌, ◌*◌, ◌≤◌, max, Bool, true, false, if◌then◌else◌, refl, arith}
 use Rattle.smv_text.specs.Tree.{Tree as Expression, truth, number, literal, name, prefix, chain, choice, cases, select, call, next, set, range, Links, no_links, link, Branches, no_branches, branch, Trees as Expressions, no_trees as no_expressions, tree as expression}
-use Rattle.moxi_terms.specs.Tree.{Tree, constant, variable, bound, apply, binding, call as called, Trees, no_trees, tree}
+use Rattle.moxi_terms.specs.Tree.{Tree, Trees, no_trees, tree}
 use Rattle.moxi_flat.specs.Terms.{term_size, terms_size, term_height, terms_height}
 use Rattle.smv_script.specs.Terms.{Translation}
+use Rattle.moxi_script_print.proofs.Brackets.{open_brackets, all_brackets}
 
 -- ---- the least number of tokens
 
@@ -40,20 +41,6 @@ abbrev mutual
 
 abbrev pub no_calls : ℕ → ℕ
 no_calls n = 0
-
--- how many brackets of a term stand open at most
-abbrev mutual
-  pub open_brackets : Tree → ℕ
-  open_brackets (constant d) = 0
-  open_brackets (variable v primed) = 0
-  open_brackets (bound i) = 0
-  open_brackets (apply o ts) = 1 + max 1 (all_brackets ts)
-  open_brackets (binding names ts t) = 1 + max (2 + all_brackets ts) (open_brackets t)
-  open_brackets (called n ts) = 1 + all_brackets ts
-
-  pub all_brackets : Trees → ℕ
-  all_brackets no_trees = 0
-  all_brackets (tree t ts) = max (open_brackets t) (all_brackets ts)
 
 pub record IsLeaf (t : Tree) : Type 0 where
   pub size : term_size no_calls t ≡ 1

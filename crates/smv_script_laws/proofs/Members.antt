@@ -33,8 +33,8 @@ use Rattle.smv_script.specs.Script.{member_term, domain_parts}
 use Rattle.smv_script_laws.proofs.Integers.{signed_back}
 use Rattle.smv_script_laws.proofs.Parts.{held_wider, any_of, any_value, joined_cons}
 use Rattle.smv_flat_laws.proofs.FlatFound.{left_true}
-use Rattle.smv_flat_laws.proofs.FlatTruths.{and_true}
 use Rattle.smv_laws.proofs.Cycles.{right_true}
+use Rattle.text_core.proofs.Truths.{and_true}
 
 pub same_self : (d : Datum) → same d d ≡ true
 same_self (datum.Truth true) = refl

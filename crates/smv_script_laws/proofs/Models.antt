@@ -118,7 +118,7 @@ item_width t width model k m h = item_forms t (λ f. tree_width f.body ≤ width
 -- ---- what paths become
 
 -- an item's number is that of an item, and a symbol's that of its place
-abbrev IsPlaced : List Instance → Leaf → Type 0
+abbrev pub IsPlaced : List Instance → Leaf → Type 0
 IsPlaced t (of_item k) = k < length (flat_of t).items
 IsPlaced t (of_symbol s) = (y : List ℕ) × (slice_get (symbols_of t) s ≡ Some y) × (place_of (symbols_of t) y ≡ Some s)
 IsPlaced t of_nothing = Unit {0}
@@ -130,18 +130,18 @@ found_origin t m k h = by (origins_of t) k h
     by [] n e = cc
     by (o ∷ ms) n e = let p = position-Some (is_item t m) (o ∷ ms) n o e in (get_or (o ∷ ms) n o, slice_get-get_or (o ∷ ms) n o p.0, p.1)
 
-item_placed : (t : List Instance) (m : Found) (o : Option ℕ) → position (is_item t m) (origins_of t) ≡ o → IsPlaced t (item_leaf o)
+pub item_placed : (t : List Instance) (m : Found) (o : Option ℕ) → position (is_item t m) (origins_of t) ≡ o → IsPlaced t (item_leaf o)
 item_placed t m None h = tt
 item_placed t m (Some k) h = let p = found_origin t m k h in origin_within t k p.0 p.1
 
-symbol_placed : (t : List Instance) (x : List ℕ) (o : Option ℕ) → position (bytes_eq x) (symbols_of t) ≡ o → IsPlaced t (symbol_leaf o)
+pub symbol_placed : (t : List Instance) (x : List ℕ) (o : Option ℕ) → position (bytes_eq x) (symbols_of t) ≡ o → IsPlaced t (symbol_leaf o)
 symbol_placed t x None h = tt
 symbol_placed t x (Some s) h =
     let p = position-Some (bytes_eq x) (symbols_of t) s [] h in
     let y = get_or (symbols_of t) s [] in
     (y, slice_get-get_or (symbols_of t) s [] p.0, subst (λ z. place_of (symbols_of t) z ≡ Some s) ((bytes_eq-Decides x y).0 p.1) h)
 
-leaf_placed : (t : List Instance) (m : Found) → IsPlaced t (leaf_found t m)
+pub leaf_placed : (t : List Instance) (m : Found) → IsPlaced t (leaf_found t m)
 leaf_placed t (variable_at x kind d) = item_placed t (variable_at x kind d) _ refl
 leaf_placed t (body_at i x j e) = item_placed t (body_at i x j e) _ refl
 leaf_placed t (symbol_of x) = symbol_placed t x _ refl

@@ -37,7 +37,7 @@ use Rattle.smv_script.specs.Terms.{amount_of, Translation}
 use Rattle.smv_script_laws.specs.Kinds.{IsKnown, IsOfKind}
 use Rattle.smv_script_laws.proofs.Integers.{bits_sum, bits_product}
 use Rattle.smv_script_laws.proofs.Rows.{words_are, IsNonzero, is_plain, kind_same}
-use Rattle.smv_flat.proofs.FlatShapes.{or_false}
+use Rattle.text_core.proofs.Truths.{or_false}
 
 -- ---- kinds
 

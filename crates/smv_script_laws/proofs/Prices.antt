@@ -16,8 +16,9 @@ use Rattle.smv_flat.specs.declared.forms.Role.TheVariants.{Body, Assign, Init, T
 use Rattle.smv_flat.specs.FlatForms.{Form, flat_in, content_form, body_forms, element_forms, assignment_form, number_or_first, forms_here, forms_from, flat_of}
 use Rattle.smv_script_laws.proofs.Measures.{fewest, fewest_parts}
 use Rattle.smv_script_laws.proofs.Chains.{Sized}
-use Rattle.smv_script_laws.proofs.Charges.{total, total_append, all_append, domain_charge, item_charge, declared_charge, stated_charge, EachPart, ElementEach}
+use Rattle.smv_script_laws.proofs.Charges.{all_append, domain_charge, item_charge, declared_charge, stated_charge, EachPart, ElementEach}
 use Rattle.smv_script_laws.proofs.Instances.{InstanceFits, charges}
+use Rattle.smv_items.specs.laws.Counting.{total, total_append}
 
 -- ---- what is charged for where an item comes from
 

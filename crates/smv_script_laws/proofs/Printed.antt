@@ -1,50 +1,21 @@
 -- How many brackets of the printed script stand open at most.
-use Rattle.std.proofs.Common.{ℕ, ◌+◌, ◌≤◌, List, [], ◌∷◌, ◌++◌, map, arith}
+use Rattle.std.proofs.Common.{ℕ, ◌≤◌, List, [], ◌∷◌, ◌++◌, map, arith}
 use Rattle.std.specs.Prelude.{codes}
 use Rattle.smv_text.specs.declared.tree.When.TheVariants.{Always, First, Following}
 use Rattle.smv_meaning.specs.Instances.{instances_of}
 use Rattle.smv_flat.specs.FlatForms.{PlainFlat, flat_of}
-use Rattle.moxi_terms.specs.Names.{function_names}
-use Rattle.moxi_terms.specs.Tree.{Tree, constant, variable, bound, apply, binding, call, Trees, no_trees, tree}
+use Rattle.moxi_terms.specs.Tree.{Tree}
 use Rattle.moxi_terms.specs.View.{ScopeState}
 use Rattle.moxi_term_print.specs.Shown.{no_showns, shown, joined, shown_depth, shown_depths}
-use Rattle.moxi_term_print.specs.Terms.{name_at, shown_term, shown_terms, shown_bindings, variable_names}
+use Rattle.moxi_term_print.specs.Terms.{variable_names}
 use Rattle.moxi_scripts.specs.Script.{PlainFormula, variables_in}
 use Rattle.moxi_script_print.specs.Printing.{attribute, shown_lists, shown_formulas, shown_labels, shown_queries, shown_conditions, shown_system, shown_check, shown_enumerations, system_names}
 use Rattle.smv_script.specs.Script.{coding_of, symbol_sort, system_of, check_of, script_of}
 use Rattle.smv_script_laws.specs.BoundLaws.{BracketsAreFew}
-use Rattle.smv_script_laws.proofs.Measures.{open_brackets, all_brackets}
 use Rattle.smv_script_laws.proofs.Lows.{FormsFit, FormulasLow, formula_low, all_reachables_low, source_forms_fit}
-use Rattle.moxi_script_print.proofs.Depths.{call_depth, joined_depths, lists_depth, operator_depth, queries_depth, symbols_depth, value_depth}
+use Rattle.moxi_script_print.proofs.Depths.{joined_depths, lists_depth, queries_depth, symbols_depth}
 use Rattle.moxi_scripts.specs.Valid.{check_variables, formula_names}
-
--- ---- terms
-
-mutual
-  term_depth : (s : ScopeState) (vars bounds : List (List ℕ)) (t : Tree) → shown_depth (shown_term s vars bounds t) ≤ open_brackets t
-  term_depth s vars bounds (constant d) = let a = value_depth s d in omega (arith, a)
-  term_depth s vars bounds (variable v primed) = omega arith
-  term_depth s vars bounds (bound i) = omega arith
-  term_depth s vars bounds (apply o ts) = let a = operator_depth o in let r = terms_depth s vars bounds ts in omega (arith, a, r)
-  term_depth s vars bounds (binding names ts t) =
-      let a = bindings_depth s vars bounds names ts in
-      let r = term_depth s vars (bounds ++ names) t in
-      omega (arith, a, r)
-  term_depth s vars bounds (call n ts) =
-      let a = call_depth (name_at (function_names s) n) (shown_terms s vars bounds ts) in
-      let r = terms_depth s vars bounds ts in
-      omega (arith, a, r)
-
-  terms_depth : (s : ScopeState) (vars bounds : List (List ℕ)) (ts : Trees) → shown_depths (shown_terms s vars bounds ts) ≤ all_brackets ts
-  terms_depth s vars bounds no_trees = omega arith
-  terms_depth s vars bounds (tree t ts) = let a = term_depth s vars bounds t in let r = terms_depth s vars bounds ts in omega (arith, a, r)
-
-  bindings_depth : (s : ScopeState) (vars bounds names : List (List ℕ)) (ts : Trees) → shown_depths (shown_bindings s vars bounds names ts) ≤ 1 + all_brackets ts
-  bindings_depth s vars bounds names no_trees = omega arith
-  bindings_depth s vars bounds [] (tree t ts) = omega arith
-  bindings_depth s vars bounds (name ∷ names) (tree t ts) = let a = term_depth s vars bounds t in let r = bindings_depth s vars bounds names ts in omega (arith, a, r)
-
--- ---- lists of variables and names
+use Rattle.moxi_script_print.proofs.Brackets.{open_brackets, term_depth}
 
 -- ---- systems
 

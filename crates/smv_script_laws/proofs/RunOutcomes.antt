@@ -19,11 +19,11 @@ use Rattle.smv_accepted.proofs.Literals.{words_fit_law}
 use Rattle.smv_width.specs.FlatWidth.{width_of}
 use Rattle.smv_width.proofs.SpelledWidths.{instances_operators}
 use Rattle.moxi_terms.specs.Value.{Calls, Values}
-use Rattle.moxi_scripts.specs.Script.{calls_in}
+use Rattle.moxi_scripts.specs.Script.{calls_in, query_of}
 use Rattle.moxi_scripts.specs.Behaviour.{Behaves, behaves, no_subsystems, FormulasHold, Holds, Trace}
 use Rattle.moxi_scripts.specs.Meeting.{MeetsQuery, Reaches}
 use Rattle.smv_script.specs.Terms.{Coding}
-use Rattle.smv_script.specs.Script.{coding_of, formula_of, query_of, system_of}
+use Rattle.smv_script.specs.Script.{coding_of, formula_of, system_of}
 use Rattle.smv_script_laws.specs.Decoding.{decoded_state, decoded_label, decoded_steps}
 use Rattle.smv_script_laws.specs.EnvironmentLaws.{SuitsSystem, IsEnvironmentOf, environment_in}
 use Rattle.smv_script_laws.proofs.Environments.{environments_are_rows_law, rows_have_environments_law}

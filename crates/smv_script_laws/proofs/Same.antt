@@ -31,7 +31,6 @@ use Rattle.moxi_terms.specs.Value.{Calls, Values, term_value}
 use Rattle.moxi_scripts.specs.Behaviour.{Holds}
 use Rattle.smv_width.specs.FlatWidth.{tree_width}
 use Rattle.smv_script.specs.Codes.{value_of}
-use Rattle.smv_script.specs.Operators.{equal_term}
 use Rattle.smv_script.specs.Terms.{Coding, translation}
 use Rattle.smv_script.specs.Script.{body_part, body_parts}
 use Rattle.smv_script_laws.proofs.ValueLaws.{values_round_trip_law}
@@ -39,6 +38,7 @@ use Rattle.smv_script_laws.proofs.Bodies.{all_left, all_right, IsBody, IsGood}
 use Rattle.smv_script_laws.proofs.Domains.{same_datum, truth_is}
 use Rattle.smv_script_laws.proofs.Models.{Model, item_typed, item_forms, item_width, found_origin, IsCoded}
 use Rattle.smv_script_laws.proofs.Steps.{Fit, Reads, body_says}
+use Rattle.moxi_terms.specs.Applications.{equal_term}
 
 -- ---- the equation of a body
 

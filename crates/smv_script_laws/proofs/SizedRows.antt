@@ -14,8 +14,9 @@ use Rattle.moxi_terms.specs.declared.data.TermOp.{TermOp}
 use Rattle.moxi_terms.specs.declared.data.TermOp.TheVariants as op
 use Rattle.moxi_terms.specs.Tree.{Tree, constant, variable, bound, apply, binding, Trees, no_trees, tree, list_of}
 use Rattle.moxi_flat.specs.Terms.{operator_size}
-use Rattle.smv_script.specs.Operators.{one, two, word_term, equal_term, choice_term, any_term, sign_op, repeated, logical_op, infix_op, joins_with, infix_term, link_term, extended_term, selected_term, resized_term, counted_terms, sum_term, t_and_u, is_below, Arguments, function_term, between_term, among_term}
+use Rattle.smv_script.specs.Operators.{word_term, any_term, sign_op, repeated, logical_op, infix_op, joins_with, infix_term, link_term, extended_term, selected_term, resized_term, counted_terms, sum_term, t_and_u, is_below, Arguments, function_term, between_term, among_term}
 use Rattle.smv_script_laws.proofs.Measures.{IsLeaf, Within, Inside, Together, AllWithin, none_within, one_within, within_more, within_if}
+use Rattle.moxi_terms.specs.Applications.{one, two, equal_term, choice_term}
 
 pub constant_leaf : (d : Datum) → IsLeaf (constant d)
 constant_leaf d = record { size = refl; height = refl; brackets = refl }

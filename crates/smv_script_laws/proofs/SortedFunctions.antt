@@ -23,11 +23,12 @@ use Rattle.moxi_terms.specs.Tree.{Tree, bound, apply, Trees, no_trees, tree}
 use Rattle.moxi_term_reading.specs.declared.locals.Local.{Local}
 use Rattle.moxi_term_print.specs.WellScoped.{IsWellScoped, AreWellScoped}
 use Rattle.smv_script.specs.Codes.{sort_of}
-use Rattle.smv_script.specs.Operators.{one, word_term, integer_term, words_term, counted_term, counted_terms, sum_term, extended_term, is_below, Arguments, function_term}
+use Rattle.smv_script.specs.Operators.{word_term, integer_term, counted_term, counted_terms, sum_term, extended_term, is_below, Arguments, function_term}
 use Rattle.smv_script_laws.proofs.Applied.{ctx, one_stand, words_stand, equal_stands, choice_stands, many_stand, word_stands, integer_stands, extended_stands}
 use Rattle.smv_script_laws.proofs.Bounds.{one_bound, two_bound, one_stands, first_stands, second_stands}
 use Rattle.smv_script_laws.proofs.SortedRows.{word_cases, truth_case, integer_case}
 use Rattle.moxi_term_print.proofs.SortedTerms.{copies}
+use Rattle.moxi_terms.specs.Applications.{one, words_term}
 
 -- a word whose greatest number the integers' width holds is no wider
 pub held_width : (width m : ℕ) → 1 ≤ width → Holds width (pos (2 ^ m - 1)) → m ≤ width

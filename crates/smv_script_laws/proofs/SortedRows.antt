@@ -1,5 +1,5 @@
 -- Operators between operands whose types fit have the sort of their type.
-use Rattle.std.proofs.Common.{◌≡◌, ℕ, ◌+◌, ◌≤◌, Bool, true, false, ◌==◌, nat_le, if◌then◌else◌, ◌%◌, ℤ, neg_ℤ, ◌+ℤ◌, ◌-ℤ◌, ◌*ℤ◌, List, [], ◌∷◌, length, Option, Some, None, Ok, Err, refl, sym, ap, ◌∙◌, subst, arith}
+use Rattle.std.proofs.Common.{◌≡◌, ℕ, ◌+◌, ◌≤◌, Bool, true, false, ◌==◌, nat_le, if◌then◌else◌, ◌%◌, ℤ, neg_ℤ, List, [], ◌∷◌, length, Option, Some, None, Ok, Err, refl, sym, ap, ◌∙◌, subst, arith}
 use Rattle.std.proofs.lemmas.Bool.{eqb-true, le-leb}
 use Rattle.std.specs.List.{list_all, AllByRecursion}
 use Rattle.text_core.specs.declared.place.Kind.TheVariants.{M}
@@ -26,10 +26,11 @@ use Rattle.moxi_terms.specs.Tree.{Tree, apply, Trees, tree}
 use Rattle.moxi_term_reading.specs.declared.locals.Local.{Local}
 use Rattle.moxi_term_print.specs.WellScoped.{IsWellScoped, AreWellScoped}
 use Rattle.smv_script.specs.Codes.{sort_of}
-use Rattle.smv_script.specs.Operators.{one, two, words_term, equal_term, sign_op, repeated, infix_op, joins_with, infix_term}
+use Rattle.smv_script.specs.Operators.{sign_op, repeated, infix_op, joins_with, infix_term}
 use Rattle.smv_script_laws.proofs.Rows.{is_plain}
 use Rattle.smv_script_laws.proofs.Applied.{ctx, one_stand, two_stand, words_stand, equal_stands, not_stands, many_stand, repeated_stands, is_written, is_known}
 use Rattle.moxi_term_print.proofs.SortedTerms.{copies}
+use Rattle.moxi_terms.specs.Applications.{one, two, words_term, equal_term}
 
 -- ---- types that fit, case by case
 

@@ -32,9 +32,8 @@ use Rattle.moxi_term_print.specs.StandingNames.{IsSpellable, AreSpellable, Names
 use Rattle.moxi_term_print.proofs.StandingNumbers.{decimal_run}
 use Rattle.moxi_scripts.specs.declared.script.Query.{Query}
 use Rattle.moxi_script_print.specs.NamesOfScripts.{VariablesAreSpellable, IsSpellableFormula}
-use Rattle.smv_script.specs.Operators.{equal_term}
 use Rattle.smv_script.specs.Terms.{Coding, translation}
-use Rattle.smv_script.specs.Script.{Group, inputs, outputs, locals, group_of, same_group, items_in, kind_letter, variable_of, variables_in, coding_of, all_term, member_term, domain_parts, body_part, body_parts, invar_item, trans_item, item_parts, is_following, form_parts, numbered_parts, instance_parts, parts_upto, above_items, above_forms, formula_of, symbol_sort, reachables_from, queries_from}
+use Rattle.smv_script.specs.Script.{Group, inputs, outputs, locals, group_of, same_group, items_in, kind_letter, variable_of, variables_in, coding_of, member_term, domain_parts, body_part, body_parts, invar_item, trans_item, item_parts, is_following, form_parts, numbered_parts, instance_parts, parts_upto, above_items, above_forms, formula_of, symbol_sort, reachables_from, queries_from}
 use Rattle.smv_script_laws.proofs.Constants.{constant_of}
 use Rattle.smv_script_laws.specs.ValidLaws.{NamesAreSpellable as AllNames}
 use Rattle.smv_script_laws.proofs.Spellable.{barred_spellable}
@@ -42,6 +41,7 @@ use Rattle.smv_script_laws.proofs.SpellableTerms.{any_named, translation_named}
 use Rattle.smv_script_laws.proofs.WholeScripts.{few_invariants}
 use Rattle.moxi_term_print.proofs.SpellableNames.{Named, run_all}
 use Rattle.name_maps.proofs.FreshNames.{all_joined, all_mapped}
+use Rattle.moxi_terms.specs.Applications.{equal_term, all_term}
 
 -- ---- bytes that need no bar
 

@@ -13,8 +13,9 @@ use Rattle.moxi_terms.specs.Tree.{Tree, bound, apply, Trees, no_trees, tree}
 use Rattle.moxi_term_print.specs.StandingNames.{NamesAreSpellable, AllNamesAreSpellable}
 use Rattle.std.specs.Prelude.{codes}
 use Rattle.smv_script_laws.proofs.Spellable.{barred_spellable}
-use Rattle.smv_script.specs.Operators.{choice_term, any_term, repeated, joins_with, infix_term, link_term, front_width, selected_term, resized_term, extended_term, counted_terms, sum_term, Arguments, function_term, among_term}
+use Rattle.smv_script.specs.Operators.{any_term, repeated, joins_with, infix_term, link_term, front_width, selected_term, resized_term, extended_term, counted_terms, sum_term, Arguments, function_term, among_term}
 use Rattle.smv_script.specs.Terms.{is_word, word_width, amount_of, is_name, arguments_of, Translation, Coding, translation, chain_translation, implied_term, folded_term, link_terms, link_members, chosen_translation, taken_translation, terms, members, are_flat_unions, all_join_with}
+use Rattle.moxi_terms.specs.Applications.{choice_term}
 
 pub record IsNamed (x : Translation) : Type 0 where
   pub term : (k : ℕ) → NamesAreSpellable (x.term k)

@@ -14,10 +14,11 @@ use Rattle.moxi_terms.specs.Tree.{Tree, trees_of}
 use Rattle.moxi_terms.specs.Value.{Calls, Values, term_value, term_values}
 use Rattle.moxi_scripts.specs.Behaviour.{Holds}
 use Rattle.smv_script.specs.Terms.{Coding}
-use Rattle.smv_script.specs.Script.{all_term, item_parts, form_parts, numbered_parts, instance_parts, parts_upto, above_items, above_forms, formula_of}
+use Rattle.smv_script.specs.Script.{item_parts, form_parts, numbered_parts, instance_parts, parts_upto, above_items, above_forms, formula_of}
 use Rattle.smv_script_laws.specs.FormulaLaws.{FormulaSplits}
 use Rattle.smv_script_laws.proofs.Lists.{all_front}
 use Rattle.smv_script_laws.proofs.Bodies.{all_joined}
+use Rattle.moxi_terms.specs.Applications.{all_term}
 
 -- ---- one term that says all parts
 

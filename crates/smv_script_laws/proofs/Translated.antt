@@ -37,7 +37,7 @@ use Rattle.moxi_terms.specs.Tree.{Tree, constant, variable, bound, apply, tree}
 use Rattle.moxi_term_reading.specs.declared.locals.Local.{Local}
 use Rattle.moxi_term_print.specs.WellScoped.{IsWellScoped, AreWellScoped, IsAllowedPrime}
 use Rattle.smv_script.specs.Codes.{sort_of}
-use Rattle.smv_script.specs.Operators.{word_term, integer_term, words_term, extended_term, any_term, sign_op, repeated, infix_op, joins_with, infix_term, front_width, link_term, selected_term, resized_term, function_term, among_term}
+use Rattle.smv_script.specs.Operators.{word_term, integer_term, extended_term, any_term, sign_op, repeated, infix_op, joins_with, infix_term, front_width, link_term, selected_term, resized_term, function_term, among_term}
 use Rattle.smv_script.specs.Terms.{is_word_in, is_word, width_in, word_width, amount_of, is_name, arguments_of, Translation, value_translation, set_translation, choice_translation, are_flat_unions, all_join_with, Coding, translation, implied_term, folded_term, link_terms, link_members, chosen_translation, taken_translation, terms, members}
 use Rattle.smv_script_laws.proofs.Rows.{is_plain}
 use Rattle.smv_script_laws.proofs.Typings.{call_typed, front_no_union, front_typed, implies_flat, implies_typed, linked_typed, node_typed, range_typed, right_no_union, set_typed, some_same, type_kept, unions_flat}
@@ -50,6 +50,7 @@ use Rattle.smv_script_laws.proofs.SortedRows.{TypeFits, infix_kept, word_cases, 
 use Rattle.smv_script_laws.proofs.SortedFunctions.{bool_stands, word1_stands, toint_stands, count_stands, max_stands, min_stands, abs_stands}
 use Rattle.smv_script_laws.proofs.Typed.{prefix_whole, select_whole, branches_whole, literal_whole, select_bounds, behind_nexts, across_nexts, never_primed, type_fits}
 use Rattle.moxi_term_print.proofs.SortedTerms.{copies}
+use Rattle.moxi_terms.specs.Applications.{words_term}
 
 -- ---- operators that aren't `in`, `union` or shifts
 

@@ -36,7 +36,7 @@ use Rattle.moxi_terms.specs.Operators.{truth_of, same, op_value}
 use Rattle.moxi_terms.specs.Tree.{Tree, constant, variable, bound, apply, tree}
 use Rattle.moxi_terms.specs.Value.{Calls, Values, term_value, term_values}
 use Rattle.smv_script.specs.Codes.{integer_bits, integer_word, datum_of}
-use Rattle.smv_script.specs.Operators.{integer_term, choice_term, any_term, sign_op, repeated, infix_op, joins_with, infix_term, front_width, link_term, selected_term, resized_term, function_term, between_term, among_term}
+use Rattle.smv_script.specs.Operators.{integer_term, any_term, sign_op, repeated, infix_op, joins_with, infix_term, front_width, link_term, selected_term, resized_term, function_term, between_term, among_term}
 use Rattle.smv_script.specs.Terms.{is_word_in, is_word, width_in, word_width, amount_of, is_name, arguments_of, Translation, value_translation, set_translation, choice_translation, are_flat_unions, all_join_with, Coding, translation, implied_term, folded_term, link_terms, link_members, chosen_translation, taken_translation, terms, members}
 use Rattle.smv_script_laws.specs.Kinds.{IsOfKind}
 use Rattle.smv_script_laws.specs.Meanings.{Says}
@@ -46,10 +46,11 @@ use Rattle.smv_script_laws.proofs.Functions.{at_front, AreOfKinds, AreCoded, sel
 use Rattle.smv_script_laws.proofs.Typings.{branches_typed, call_typed, front_no_union, front_typed, implies_flat, implies_typed, linked_typed, node_typed, or_first, prefix_typed, range_typed, right_no_union, select_typed, set_typed, some_same, type_kept, unions_flat}
 use Rattle.smv_script_laws.proofs.Known.{known_applied, known_value}
 use Rattle.smv_script_laws.proofs.Parts.{Front, IsAsWide, IsOfAll, LeafIsRepresented, SaysAll, amount_is, any_value, divisor_nonzero, extend_fits, extend_second, held_wider, hull_kind, hull_of_kind, implied_kind, joined_cons, joins_plain, joins_same, joined_end, joined_kept, joined_step, joined_word, known_kind, link_permits, logical_all, number_kept, number_value, permit_list, permits_any, pick_three, resize_fits, resize_second, toint_held, truth_code, unions_permit, wide_kept, wide_of, wide_word}
-use Rattle.smv_flat.proofs.FlatShapes.{or_false}
-use Rattle.smv_flat_laws.proofs.FlatTruths.{and_true, not_true}
+use Rattle.smv_flat_laws.proofs.FlatTruths.{not_true}
 use Rattle.smv_script_laws.proofs.Integers.{pick_true}
 use Rattle.smv_script_laws.proofs.Translated.{by_cases, plain_link, plain_sets, plain_width, typed_if, width_if}
+use Rattle.text_core.proofs.Truths.{or_false, and_true}
+use Rattle.moxi_terms.specs.Applications.{choice_term}
 
 -- ---- operators that aren't `in`, `union` or shifts
 

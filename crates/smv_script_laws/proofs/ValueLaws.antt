@@ -1,6 +1,5 @@
 -- The law of values in the rows of a model's states, and the codes both ways.
-use Rattle.std.proofs.Common.{◌≡◌, ℕ, ◌-◌, ◌%◌, ◌^◌, ◌<◌, Bool, true, false, nat_lt, if◌then◌else◌, pos, ◌-ℤ◌, List, [], ◌∷◌, length, get_or, position, Option, Some, None, refl, sym, ap, ◌∙◌, subst, arith}
-use Rattle.std.specs.Prelude.{slice_get}
+use Rattle.std.proofs.Common.{◌≡◌, ℕ, ◌-◌, ◌%◌, ◌^◌, ◌<◌, Bool, true, false, nat_lt, if◌then◌else◌, pos, ◌-ℤ◌, List, [], length, get_or, refl, sym, ap, ◌∙◌, subst, arith}
 use Rattle.std.proofs.lemmas.Int.{ints}
 use Rattle.std.proofs.lemmas.List.{length-map}
 use Rattle.std.proofs.lemmas.List.Quantifiers.{position-Some}
@@ -14,18 +13,17 @@ use Rattle.smv_meaning.specs.declared.value.Value.TheVariants.{Truth, Integer, S
 use Rattle.smv_meaning.specs.Values.{Valuation}
 use Rattle.smv_meaning.specs.Operators.{word}
 use Rattle.smv_meaning.specs.Instances.{Instance}
-use Rattle.smv_meaning.specs.Names.{Found, variable_at, body_at, instance_at, symbol_of, cyclic, none, found_in}
+use Rattle.smv_meaning.specs.Names.{found_in}
 use Rattle.smv_meaning.specs.Types.{truth_type, integer_type, symbol_type, word_type}
 use Rattle.smv_meaning.specs.Settled.{Acyclic, types_in, values_in}
 use Rattle.smv_laws.proofs.TypeLaws.{NamesLie}
 use Rattle.smv_laws.proofs.ValueLaws.{paths_lie_law}
-use Rattle.smv_items.specs.FlatItems.{Leaf, of_item, of_symbol, of_nothing, origins_of, symbols_of, is_item, item_leaf, symbol_leaf, leaf_found, leaf_in}
+use Rattle.smv_items.specs.FlatItems.{Leaf, of_item, of_symbol, of_nothing, origins_of, symbols_of, leaf_in}
 use Rattle.smv_flat.specs.FlatForms.{flat_in, flat_of}
 use Rattle.smv_flat_laws.specs.FlatTruth.{Row, symbol_or_none, symbol_value}
 use Rattle.smv_flat_laws.proofs.FlatSame.{leaf_value}
 use Rattle.smv_flat_laws.proofs.FlatRows.{row_values}
 use Rattle.smv_flat_laws.proofs.FlatTruths.{flat_value}
-use Rattle.name_maps.specs.Names.{place_of}
 use Rattle.moxi_terms.specs.declared.data.Datum.TheVariants as datum
 use Rattle.moxi_terms.specs.Value.{Values}
 use Rattle.smv_script.specs.Codes.{integer_bits, number_or_zero, datum_of}
@@ -35,37 +33,9 @@ use Rattle.smv_script_laws.specs.TermLaws.{HasRow, TermsHaveValues, ValuesRoundT
 use Rattle.smv_script_laws.proofs.Integers.{same_code, signed_back}
 use Rattle.smv_script_laws.proofs.Parts.{LeafIsRepresented}
 use Rattle.smv_script_laws.proofs.Translations.{says}
+use Rattle.smv_script_laws.proofs.Models.{IsPlaced, leaf_placed}
 
 -- ---- what paths become
-
--- an item's number is that of an item, and a symbol's that of its place
-abbrev IsPlaced : List Instance → Leaf → Type 0
-IsPlaced t (of_item k) = k < length (origins_of t)
-IsPlaced t (of_symbol s) = (y : List ℕ) × (slice_get (symbols_of t) s ≡ Some y) × (place_of (symbols_of t) y ≡ Some s)
-IsPlaced t of_nothing = Unit {0}
-
-item_placed : (t : List Instance) (m : Found) (o : Option ℕ) → position (is_item t m) (origins_of t) ≡ o → IsPlaced t (item_leaf o)
-item_placed t m None h = tt
-item_placed t m (Some k) h = first_below (is_item t m) (origins_of t) k h
-  where
-    first_below : {X : Type 0} (p : X → Bool) (xs : List X) (k : ℕ) → position p xs ≡ Some k → k < length xs
-    first_below p [] k h = cc
-    first_below p (x ∷ xs) k h = (position-Some p (x ∷ xs) k x h).0
-
-symbol_placed : (t : List Instance) (x : List ℕ) (o : Option ℕ) → position (bytes_eq x) (symbols_of t) ≡ o → IsPlaced t (symbol_leaf o)
-symbol_placed t x None h = tt
-symbol_placed t x (Some s) h =
-    let p = position-Some (bytes_eq x) (symbols_of t) s [] h in
-    let y = get_or (symbols_of t) s [] in
-    (y, slice_get-get_or (symbols_of t) s [] p.0, subst (λ z. place_of (symbols_of t) z ≡ Some s) ((bytes_eq-Decides x y).0 p.1) h)
-
-leaf_placed : (t : List Instance) (m : Found) → IsPlaced t (leaf_found t m)
-leaf_placed t (variable_at x kind d) = item_placed t (variable_at x kind d) _ refl
-leaf_placed t (body_at i x j e) = item_placed t (body_at i x j e) _ refl
-leaf_placed t (symbol_of x) = symbol_placed t x _ refl
-leaf_placed t (instance_at i) = tt
-leaf_placed t cyclic = tt
-leaf_placed t none = tt
 
 -- ---- the law of values
 

@@ -23,7 +23,8 @@ use Rattle.smv_items.specs.FlatItems.{Content, variable, definition, actual, Ori
 use Rattle.smv_script_laws.proofs.Lists.{all_at}
 use Rattle.smv_laws.proofs.CheckedLaws.{four}
 use Rattle.smv_script_laws.proofs.Bodies.{all_joined}
-use Rattle.smv_flat_laws.proofs.FlatStays.{IsRest, rest_more, rest_path}
+use Rattle.smv_flat_laws.proofs.FlatStays.{rest_path}
+use Rattle.smv_laws.proofs.Rests.{IsRest, rest_more}
 
 -- a variable's value, in the state, or as an input in the label
 abbrev pub value_at : Valuation → Valuation → VarKind → Valuation

@@ -30,10 +30,11 @@ use Rattle.smv_script.specs.Script.{Group, inputs, outputs, locals, group_of, sa
 use Rattle.smv_script_laws.specs.BoundLaws.{SizesByWeight, CountsByWeight}
 use Rattle.smv_script_laws.proofs.Measures.{no_calls, fewest}
 use Rattle.smv_script_laws.proofs.Chains.{Sized}
-use Rattle.smv_script_laws.proofs.Charges.{total, total_is, domain_charge, spelled_modules}
+use Rattle.smv_script_laws.proofs.Charges.{domain_charge, spelled_modules}
 use Rattle.smv_script_laws.proofs.Instances.{InstanceFits, charges, source_fits, charges_weigh}
 use Rattle.smv_script_laws.proofs.Prices.{IsPriced, flat_priced}
 use Rattle.smv_script_laws.proofs.Formulas.{members_bound, parts_bound, invariant_cost, form_cost, form_costs, formulas_size}
+use Rattle.smv_items.specs.laws.Counting.{total, total_is}
 
 -- ---- the queries and their formulas
 

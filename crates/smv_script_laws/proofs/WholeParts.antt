@@ -43,9 +43,9 @@ use Rattle.moxi_term_reading.specs.Answer.{locals_of}
 use Rattle.moxi_term_print.specs.WellScoped.{IsWellScoped, AreWellScoped, IsAllowedPrime}
 use Rattle.moxi_scripts.specs.Script.{PlainFormula}
 use Rattle.smv_script.specs.Codes.{sort_of, symbol_datum, number_or_zero}
-use Rattle.smv_script.specs.Operators.{equal_term, integer_term}
+use Rattle.smv_script.specs.Operators.{integer_term}
 use Rattle.smv_script.specs.Terms.{Coding, translation}
-use Rattle.smv_script.specs.Script.{coding_of, all_term, member_term, interval_parts, domain_parts, body_part, body_parts, invar_item, trans_item, item_parts, is_following, form_parts, numbered_parts, instance_parts, parts_upto, above_items, above_forms, formula_of, reachables_from, symbol_sort}
+use Rattle.smv_script.specs.Script.{coding_of, member_term, interval_parts, domain_parts, body_part, body_parts, invar_item, trans_item, item_parts, is_following, form_parts, numbered_parts, instance_parts, parts_upto, above_items, above_forms, formula_of, reachables_from, symbol_sort}
 use Rattle.smv_script_laws.specs.PlaceLaws.{all_variables}
 use Rattle.smv_script_laws.specs.WellScoped.{CanAppear}
 use Rattle.smv_script_laws.specs.WellScopedLaws.{place_in_script}
@@ -61,6 +61,7 @@ use Rattle.smv_script_laws.proofs.Typings.{node_typed, some_same}
 use Rattle.moxi_term_print.proofs.SortedTerms.{copies}
 use Rattle.name_maps.proofs.FreshNames.{all_joined}
 use Rattle.name_maps.specs.laws.Places.{place_below}
+use Rattle.moxi_terms.specs.Applications.{equal_term, all_term}
 
 -- primes are in transitions alone
 abbrev pub primes_of : When → Primes

@@ -1,12 +1,11 @@
 -- The script of a spelled and accepted model is valid.
-use Rattle.std.proofs.Common.{◌≡◌, ℕ, zero, suc, ◌+◌, ◌≤◌, ◌<◌, ◌^◌, Bool, true, false, ◌||◌, nat_le, List, [], ◌∷◌, ◌++◌, map, drop, length, decimal, Option, Some, None, is_some, is_none, refl, sym, ap, ◌∙◌, subst, arith, append-nil}
+use Rattle.std.proofs.Common.{◌≡◌, ℕ, suc, ◌+◌, ◌≤◌, ◌<◌, ◌^◌, Bool, true, false, ◌||◌, nat_le, List, [], ◌∷◌, ◌++◌, map, drop, length, decimal, Option, Some, None, is_some, is_none, refl, sym, ap, ◌∙◌, subst, arith, append-nil}
 use Rattle.std.specs.Prelude.{slice_get, codes}
 use Rattle.std.specs.List.{AllByRecursion, list_any, list_all}
 use Rattle.std.specs.Str.{bytes_eq}
 use Rattle.std.proofs.lemmas.Bool.{leb-true}
 use Rattle.std.proofs.lemmas.Fmt.{decimal_injective}
 use Rattle.word_core.specs.declared.word.TheConstants.{WIDEST}
-use Rattle.digraph.specs.Graph.{is_in}
 use Rattle.digraph.proofs.Sorting.{never_returns}
 use Rattle.text_core.specs.declared.place.Place.{Place}
 use Rattle.smv_text.specs.declared.token.Token.{Token}
@@ -57,6 +56,8 @@ use Rattle.smv_script_laws.specs.ValidLaws.{ScriptsAreValid}
 use Rattle.smv_script_laws.proofs.PrintedForms.{AreRoles, AreTyped, IsRole, items_typed, forms_roles}
 use Rattle.smv_script_laws.proofs.WholeParts.{IsReady, formula_stands, reachables_formulas, forms_low, both_all}
 use Rattle.name_maps.proofs.FreshNames.{AllDiffer, Lacks, all_fresh, all_made, all_mapped}
+use Rattle.text_core.proofs.ListLaws.{nothing_there}
+use Rattle.digraph.proofs.Lists.{only_node}
 
 -- ---- the scope
 
@@ -88,9 +89,6 @@ terms_named t =
       free = subst (AllByRecursion (λ (name : List ℕ). is_fixed_term name ≡ false)) (sym e)
           (all_mapped (λ (name : List ℕ). is_fixed_term name ≡ false) constant_of (symbols_of t) (all_made (λ (s : List ℕ). is_fixed_term (constant_of s) ≡ false) constant_free (symbols_of t)));
     }
-
-nothing_there : {X : Type 0} {Y : Type 0} (n : ℕ) (x : X) → slice_get (let e : List X = [] in e) n ≡ Some x → Y
-nothing_there n x h = cc
 
 whole_scope : (t : List Instance) → IsValidScope (scope_of (symbols_of t))
 whole_scope t = record {
@@ -159,10 +157,6 @@ queries_long j (b ∷ bs) = ap suc (queries_long (j + 1) bs)
 queries_whole : (n j : ℕ) (bs : List FlatTree) → j + length bs ≤ n → AllByRecursion (IsValidQuery 0 0 n) (queries_from j bs)
 queries_whole n j [] h = tt
 queries_whole n j (b ∷ bs) h = (record { assumptions_there = tt; currents_there = tt; reachables_there = (omega (arith, h), tt); reachables_differ = refl }, queries_whole n (j + 1) bs (omega (arith, h)))
-
-only_node : (k : ℕ) → k < 1 → is_in (0 ∷ []) k ≡ true
-only_node zero h = refl
-only_node (suc k) h = absurd (omega (arith, h))
 
 -- ---- the script of instances
 

@@ -14,8 +14,9 @@ use Rattle.smv_flat.specs.FlatForms.{flat_smv}
 use Rattle.smv_width.specs.FlatWidth.{width_of}
 use Rattle.moxi_scripts.specs.Behaviour.{Trace}
 use Rattle.moxi_scripts.specs.Meeting.{MeetsQuery}
-use Rattle.smv_script.specs.Script.{coding_of, query_of, script_for}
+use Rattle.smv_script.specs.Script.{coding_of, script_for}
 use Rattle.smv_script_laws.specs.Decoding.{run_of}
+use Rattle.moxi_scripts.specs.Script.{query_of}
 
 -- a run of k transitions whose last state breaks invariant j
 pub record BreaksAt (source : PlainSource) (j k : ℕ) (states labels : List Valuation) : Type 0 where

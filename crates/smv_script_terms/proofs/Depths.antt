@@ -1,19 +1,14 @@
 -- The parts of an expression are less deep than the expression.
-use Rattle.std.proofs.Common.{◌≡◌, ℕ, zero, suc, ◌≤◌, ◌<◌, ◌++◌, get_or, max, List, [], ◌∷◌, length, map, subst, sym, ap, ◌∙◌, arith, rules}
+use Rattle.std.proofs.Common.{◌≡◌, ℕ, zero, suc, ◌≤◌, ◌<◌, ◌++◌, get_or, max, List, [], ◌∷◌, length, map, subst, sym, ap, ◌∙◌, arith}
 use Rattle.smv_flat.specs.declared.expressions.FlatExpr.{FlatExpr}
-use Rattle.smv_flat.specs.declared.expressions.FlatLink.{FlatLink, the_lemmas as link_lemmas}
-use Rattle.smv_flat.specs.declared.expressions.FlatBranch.{FlatBranch, the_lemmas as branch_lemmas}
+use Rattle.smv_flat.specs.declared.expressions.FlatLink.{FlatLink}
+use Rattle.smv_flat.specs.declared.expressions.FlatBranch.{FlatBranch}
 use Rattle.smv_flat.specs.declared.forms.FlatFormula.{FlatFormula}
 use Rattle.smv_flat.specs.FlatFormulas.{form_plain}
 use Rattle.smv_flat.specs.FlatTree.{flat_links_of, flat_branches_of, flat_trees_of}
 use Rattle.smv_flat.specs.FlatView.{plain_flat, plain_flat_link, plain_flat_branch}
 use Rattle.smv_script_terms.specs.Depths.{depth, links_depth, branches_depth, trees_depth, forms_depth}
-
-pub link_at : (l : FlatLink) → plain_flat_link l ≡ (l.op, plain_flat l.operand)
-link_at l = search (rules, link_lemmas)
-
-pub branch_at : (b : FlatBranch) → plain_flat_branch b ≡ (plain_flat b.when, plain_flat b.value)
-branch_at b = search (rules, branch_lemmas)
+use Rattle.smv_flat.proofs.FlatViews.{branch_at, link_at}
 
 link_within : (other : ℕ) (ls : List FlatLink) (k : ℕ) (l : FlatLink) → k < length ls → depth other (plain_flat_link (get_or ls k l)).1 ≤ links_depth other (flat_links_of (map plain_flat_link ls))
 link_within other [] k l h = absurd (omega (arith, h))

@@ -17,13 +17,13 @@ use Rattle.smv_flat.specs.FlatTree.{FlatTree}
 use Rattle.smv_flat.specs.laws.FlatSteps.{drop_item}
 use Rattle.moxi_terms.specs.declared.data.TermOp.TheVariants as op
 use Rattle.moxi_terms.specs.Tree.{Tree, variable, trees_of}
-use Rattle.smv_script.specs.Operators.{equal_term}
 use Rattle.smv_script.specs.Terms.{Coding, translation}
-use Rattle.smv_script.specs.Script.{all_term, body_part, body_parts, form_parts, instance_parts, item_parts, numbered_parts, parts_upto}
+use Rattle.smv_script.specs.Script.{body_part, body_parts, form_parts, instance_parts, item_parts, numbered_parts, parts_upto}
 use Rattle.smv_script_terms.specs.Operands.{several}
 use Rattle.smv_script_terms.specs.Chains.{AreChained}
 use Rattle.smv_script_terms.specs.Parts.{body_equation, body_number, body_number_of, body_owned, form_owned, item_number, item_owned, owned_by}
 use Rattle.smv_script_terms.proofs.Walked.{Walks, walk_ends, walk_goes_on}
+use Rattle.moxi_terms.specs.Applications.{equal_term, all_term}
 
 -- ---- bodies
 

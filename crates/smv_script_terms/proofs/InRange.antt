@@ -10,8 +10,8 @@ use Rattle.smv_flat.specs.FlatView.{plain_flat, plain_flat_link, plain_flat_bran
 use Rattle.smv_script.specs.Operators.{front_width}
 use Rattle.smv_script.specs.Ranges.{excess, links_excess, branches_excess, trees_excess, fronts_excess, forms_excess, joined_excess, shift_excess}
 use Rattle.smv_script.specs.Terms.{amount_of, word_width}
-use Rattle.smv_script_terms.proofs.Depths.{link_at, branch_at}
 use Rattle.smv_script_terms.proofs.LinkLists.{links_at}
+use Rattle.smv_flat.proofs.FlatViews.{branch_at, link_at}
 
 -- ---- operands
 

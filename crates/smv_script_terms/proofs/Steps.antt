@@ -1,5 +1,5 @@
 -- Loops that put what is made of each element at the end of a list.
-use Rattle.std.proofs.Common.{◌≡◌, ℕ, ◌+◌, ◌≤◌, ◌++◌, List, [], ◌∷◌, drop, length, map, refl, sym, ap, ◌∙◌, append_assoc, append-nil}
+use Rattle.std.proofs.Common.{◌≡◌, ℕ, ◌+◌, ◌≤◌, ◌++◌, List, [], ◌∷◌, drop, length, sym, ap, ◌∙◌, append_assoc, append-nil}
 use Rattle.std.proofs.lemmas.List.{drop_all}
 
 -- what is made of a list is what is made of its elements, one behind the other
@@ -14,11 +14,3 @@ step_on f is all more made xs i x total h e m k =
 
 pub steps_end : {A B : Type 0} (f : List A → List B) (all : List B) (xs : List A) (i : ℕ) (total : List B) → length xs ≤ i → f [] ≡ [] → all ++ f (drop i xs) ≡ total → all ≡ total
 steps_end f all xs i total h none k = sym (append-nil all) ∙ ap (λ ys. all ++ ys) (sym (ap f (drop_all i xs h) ∙ none)) ∙ k
-
-pub map_end : {A B : Type 0} (g : A → B) (xs : List A) (x : A) → map g (xs ++ x ∷ []) ≡ map g xs ++ g x ∷ []
-map_end g [] x = refl
-map_end g (y ∷ xs) x = ap (λ ys. g y ∷ ys) (map_end g xs x)
-
--- the new list is the old one with an element, of which this is made
-pub pushed : {A B : Type 0} (g : A → B) (xs ys : List A) (x : A) (b : B) → ys ≡ xs ++ x ∷ [] → g x ≡ b → map g ys ≡ map g xs ++ b ∷ []
-pushed g xs ys x b h e = ap (map g) h ∙ map_end g xs x ∙ ap (λ c. map g xs ++ c ∷ []) e

@@ -19,10 +19,10 @@ use Rattle.smv_script_terms.specs.declared.coding.Subject.{Subject}
 use Rattle.smv_script_terms.specs.Questions.{answered, answered_value}
 use Rattle.smv_script_terms.specs.Readings.{called_term, gathered_answer}
 use Rattle.smv_script_terms.specs.Operands.{link_answers, answers, operands_of, cases_of, chosen_cases, folded, joined_term, behind_term}
-use Rattle.smv_script_terms.proofs.Depths.{link_at, branch_at}
 use Rattle.smv_script_terms.proofs.LinkLists.{links_at}
 use Rattle.smv_script_terms.proofs.Steps.{IsOfElements}
 use Rattle.smv_script_terms.proofs.Translated.{folded_none, cases_are, gathered_is, value_made}
+use Rattle.smv_flat.proofs.FlatViews.{branch_at, link_at}
 
 -- ---- the plain forms of expressions by their shapes
 

@@ -6,7 +6,7 @@ use Rattle.smv_meaning.specs.Types.{ExprType}
 use Rattle.moxi_terms.specs.declared.data.TermOp.TheVariants as op
 use Rattle.moxi_terms.specs.Tree.{Tree, apply, Trees, no_trees, tree, trees_of, list_of}
 use Rattle.smv_flat.specs.FlatTree.{FlatTree, flat_truth, flat_number, flat_literal, flat_symbol, flat_item, flat_prefix, flat_chain, flat_choice, flat_cases, flat_select, flat_call, flat_set, flat_range, FlatLinks, no_flat_links, flat_link, FlatBranches, no_flat_branches, flat_branch, FlatTrees, no_flat_trees, flat_tree_then, flat_are_implies}
-use Rattle.smv_script.specs.Operators.{any_term, infix_term, infix_op, choice_term, front_width, link_term, among_term}
+use Rattle.smv_script.specs.Operators.{any_term, infix_term, infix_op, front_width, link_term, among_term}
 use Rattle.smv_script.specs.Terms.{Coding, Translation, value_translation, translation, chain_translation, chosen_translation, choice_translation, implied_term, folded_term, link_terms, link_members, terms, members, is_name, is_word, word_width, amount_of, are_flat_unions, all_join_with}
 use Rattle.smv_script_terms.specs.declared.coding.Question.{Question}
 use Rattle.smv_script_terms.specs.declared.coding.Question.TheVariants.{Value, Permits}
@@ -16,6 +16,7 @@ use Rattle.smv_script_terms.specs.declared.readings.Reading.TheVariants as by
 use Rattle.smv_script_terms.specs.Questions.{answered, answered_value, subject_tree}
 use Rattle.smv_script_terms.specs.Operands.{several, implied_parts, operands_of, behind_term, joined_term, folded, IsSubject, link_answers, answers, cases_of, chosen_cases}
 use Rattle.smv_script_terms.specs.Readings.{reading, named_subject, chain_answered, united_answer, gathered_answer, folded_answer}
+use Rattle.moxi_terms.specs.Applications.{choice_term}
 
 pub ok_same : {A B E : Type 0} (f : A → B) (r : Result A E) (x y : B) → x ≡ y → IfOk r (λ t. f t ≡ x) → IfOk r (λ t. f t ≡ y)
 ok_same f (Ok a) x y e h = h ∙ e

@@ -10,11 +10,12 @@ use Rattle.moxi_terms.specs.declared.data.TermOp.TheVariants as op
 use Rattle.moxi_terms.specs.Tree.{Tree, constant, apply, binding, Trees, no_trees, tree, trees_of}
 use Rattle.moxi_terms.specs.View.{plain}
 use Rattle.moxi_terms.proofs.Plain.{plain-Apply}
-use Rattle.smv_script.specs.Operators.{one, infix_term, choice_term, counted_term, counted_terms, repeated, sum_term, t_and_u}
+use Rattle.smv_script.specs.Operators.{infix_term, counted_term, counted_terms, repeated, sum_term, t_and_u}
 use Rattle.smv_script_terms.specs.declared.operands.Operand.{Operand}
 use Rattle.smv_script_terms.specs.declared.operands.Case.{Case}
 use Rattle.smv_script_terms.specs.Operands.{several, operand_plain, implied_parts, implied_end, case_plain, chosen_cases}
 use Rattle.smv_script_terms.specs.Functions.{only_tree, pair_body, pair_term}
+use Rattle.moxi_terms.specs.Applications.{one, choice_term}
 
 -- ---- by how many there are
 

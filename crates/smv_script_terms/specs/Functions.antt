@@ -7,8 +7,9 @@ use Rattle.smv_text.specs.declared.operators.Function.TheVariants as OfFunction
 use Rattle.moxi_terms.specs.declared.data.TermOp.TheVariants as op
 use Rattle.moxi_terms.specs.Operators.{nothing}
 use Rattle.moxi_terms.specs.Tree.{Tree, constant, bound, apply, binding, Trees, no_trees, tree}
-use Rattle.smv_script.specs.Operators.{Arguments as Plain, one, two, equal_term, choice_term, words_term, word_term, integer_term, extended_term, resized_term, is_below, t_alone, t_and_u}
+use Rattle.smv_script.specs.Operators.{Arguments as Plain, word_term, integer_term, extended_term, resized_term, is_below, t_alone, t_and_u}
 use Rattle.smv_script_terms.specs.declared.functions.Arguments.{Arguments}
+use Rattle.moxi_terms.specs.Applications.{one, two, words_term, equal_term, choice_term}
 
 abbrev pub arguments_plain : Arguments → Plain
 arguments_plain x = record { width = x.width; first = x.first; second = x.second }

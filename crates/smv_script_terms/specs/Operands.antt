@@ -7,13 +7,14 @@ use Rattle.moxi_terms.specs.declared.data.TermOp.{TermOp}
 use Rattle.moxi_terms.specs.Tree.{Tree, constant, bound, apply, binding, Trees, no_trees, tree}
 use Rattle.moxi_terms.specs.View.{plain}
 use Rattle.smv_flat.specs.FlatTree.{FlatTree, FlatLinks, no_flat_links, flat_link, FlatBranches, no_flat_branches, flat_branch, FlatTrees, no_flat_trees, flat_tree_then}
-use Rattle.smv_script.specs.Operators.{one, choice_term, infix_term, front_width, word_term, t_alone}
+use Rattle.smv_script.specs.Operators.{infix_term, front_width, word_term, t_alone}
 use Rattle.smv_script.specs.Terms.{Coding, Translation, translation, is_word, word_width, amount_of, folded_term}
 use Rattle.smv_script_terms.specs.Questions.{answered, subject_tree}
 use Rattle.smv_script_terms.specs.declared.coding.Question.{Question}
 use Rattle.smv_script_terms.specs.declared.coding.Subject.{Subject}
 use Rattle.smv_script_terms.specs.declared.operands.Operand.{Operand}
 use Rattle.smv_script_terms.specs.declared.operands.Case.{Case}
+use Rattle.moxi_terms.specs.Applications.{one, choice_term}
 
 -- one part is itself
 abbrev pub several : TermOp → Bool → Trees → Tree

@@ -9,9 +9,9 @@ use Rattle.smv_flat.specs.declared.forms.Role.TheVariants.{Body}
 use Rattle.smv_flat.specs.FlatForms.{Form}
 use Rattle.smv_flat.specs.FlatTree.{FlatTree}
 use Rattle.moxi_terms.specs.Tree.{Tree, variable}
-use Rattle.smv_script.specs.Operators.{equal_term}
 use Rattle.smv_script.specs.Script.{form_parts}
 use Rattle.smv_script.specs.Terms.{Coding, translation}
+use Rattle.moxi_terms.specs.Applications.{equal_term}
 
 -- the parts that belong to a number
 abbrev pub owned_by : ℕ → List (ℕ × List Tree) → List Tree

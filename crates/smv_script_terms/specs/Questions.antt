@@ -2,13 +2,13 @@
 use Rattle.std.specs.Prelude.{ℕ, List, slice_index_or}
 use Rattle.moxi_terms.specs.declared.data.Datum.TheVariants as datum
 use Rattle.moxi_terms.specs.Tree.{Tree, constant, variable, bound}
-use Rattle.smv_script.specs.Operators.{equal_term}
 use Rattle.smv_script.specs.Terms.{Coding as Codes, Translation}
 use Rattle.smv_script_terms.specs.declared.coding.Coding.{Coding}
 use Rattle.smv_script_terms.specs.declared.coding.Subject.{Subject}
 use Rattle.smv_script_terms.specs.declared.coding.Subject.TheVariants as subject
 use Rattle.smv_script_terms.specs.declared.coding.Question.{Question}
 use Rattle.smv_script_terms.specs.declared.coding.Question.TheVariants.{Value, Permits}
+use Rattle.moxi_terms.specs.Applications.{equal_term}
 
 -- 0 where the list has no such number
 abbrev pub place_at : List ℕ → ℕ → ℕ

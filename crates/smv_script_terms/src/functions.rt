@@ -5,11 +5,12 @@ ghost use Rattle.moxi_terms.specs.Tree.{binding, trees_of};
 ghost use Rattle.moxi_terms.specs.View.{plain};
 ghost use Rattle.smv_flat.specs.FlatTree.{flat_trees_of};
 ghost use Rattle.smv_flat.specs.FlatView.{plain_flat};
-ghost use Rattle.smv_script.specs.Operators.{between_term, choice_term, counted_term, counted_terms, equal_term, extended_term, function_term, one, resized_term, selected_term, sum_term, t_alone, t_and_u, word_term};
+ghost use Rattle.smv_script.specs.Operators.{between_term, counted_term, counted_terms, extended_term, function_term, resized_term, selected_term, sum_term, t_alone, t_and_u, word_term};
 ghost use Rattle.smv_script.specs.Ranges.{call_excess};
 ghost use Rattle.smv_script.specs.Terms.{arguments_of, second_of};
 ghost use Rattle.smv_script_terms.specs.Functions.{arguments_plain, first_term, first_tree, magnitude_term, only_term, only_tree, pair_body, pair_term};
 ghost use Rattle.smv_script_terms.specs.Questions.{subject_tree};
+ghost use Rattle.moxi_terms.specs.Applications.{one, equal_term, choice_term};
 
 use crate::coding::Subject;
 use crate::constants::{integer_term, subject_term, word_term};

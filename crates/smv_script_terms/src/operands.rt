@@ -4,10 +4,11 @@ ghost use Rattle.word_core.specs.Words.{IsWord};
 ghost use Rattle.moxi_terms.specs.Tree.{binding};
 ghost use Rattle.moxi_terms.specs.View.{plain};
 ghost use Rattle.smv_flat.specs.FlatView.{plain_flat};
-ghost use Rattle.smv_script.specs.Operators.{front_width, one, t_alone, infix_term, word_term};
+ghost use Rattle.smv_script.specs.Operators.{front_width, t_alone, infix_term, word_term};
 ghost use Rattle.smv_script.specs.Ranges.{joined_excess, shift_excess};
 ghost use Rattle.smv_script.specs.Terms.{is_word, word_width, amount_of};
 ghost use Rattle.smv_script_terms.specs.Operands.{operand_plain, case_plain, implied_parts, joined_term, chosen_cases};
+ghost use Rattle.moxi_terms.specs.Applications.{one};
 
 use crate::constants::word_term;
 use crate::operators::{choice, implication, infix};

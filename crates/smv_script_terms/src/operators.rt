@@ -3,10 +3,11 @@ ghost use Rattle.std.specs.Prelude.{◌≡◌, ◌<◌, ◌+◌, ◌++◌, ◌�
 ghost use Rattle.moxi_terms.specs.Tree.{apply, constant, trees_of, variable};
 ghost use Rattle.moxi_terms.specs.Operators.{nothing};
 ghost use Rattle.moxi_terms.specs.View.{plain};
-ghost use Rattle.smv_script.specs.Operators.{one, two, three, not_term, equal_term, choice_term, infix_term, repeated, sign_op, logical_op, signed_op, infix_op};
+ghost use Rattle.smv_script.specs.Operators.{not_term, infix_term, repeated, sign_op, logical_op, signed_op, infix_op};
 ghost use Rattle.smv_script_terms.specs.Questions.{answered_value, subject_tree};
 ghost use Rattle.smv_script_terms.specs.Operands.{several};
 ghost use Rattle.smv_text.specs.declared.operators.Infix.TheVariants.{Implies, Iff, Xnor};
+ghost use Rattle.moxi_terms.specs.Applications.{one, two, three, equal_term, choice_term};
 
 use crate::coding::{Question, Subject};
 use crate::constants::subject_term;

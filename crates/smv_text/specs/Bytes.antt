@@ -1,5 +1,5 @@
 -- Bytes, and fronts of lists of bytes.
-use Rattle.std.specs.Prelude.{◌≡◌, ◌==◌, ◌≤◌, ℕ, suc, Bool, false, ◌&&◌, ◌||◌, IsTrue, nat_le, if◌then◌else◌, Option, Some, None, List, [], ◌∷◌, ◌++◌, length}
+use Rattle.std.specs.Prelude.{◌≡◌, ◌==◌, ◌≤◌, ℕ, suc, Bool, ◌&&◌, ◌||◌, IsTrue, nat_le, if◌then◌else◌, Option, Some, None, List, [], ◌∷◌, ◌++◌, length}
 use Rattle.std.specs.Str.{bytes_eq}
 
 -- A to Z, a to z, and the underscore
@@ -9,11 +9,6 @@ is_letter b = (nat_le 65 b && nat_le b 90) || ((nat_le 97 b && nat_le b 122) || 
 -- tab, line feed, vertical tab, form feed, carriage return, and the space
 abbrev pub is_blank : ℕ → Bool
 is_blank b = (nat_le 9 b && nat_le b 13) || (b == 32)
-
--- the text begins with this byte
-abbrev pub heads : ℕ → List ℕ → Bool
-heads c [] = false
-heads c (b ∷ bs) = b == c
 
 -- how many bytes pass from the front on
 abbrev pub front_length : (ℕ → List ℕ → Bool) → List ℕ → ℕ

@@ -2,7 +2,7 @@
 use Rattle.std.specs.Prelude.{ℕ, Bool, true, not, ◌&&◌, List, [], ◌∷◌, map, drop, codes}
 use Rattle.smv_text.specs.declared.token.Sign.{Sign}
 use Rattle.smv_text.specs.declared.token.Sign.TheVariants as sign
-use Rattle.smv_text.specs.Bytes.{heads}
+use Rattle.text_core.specs.Bytes.{heads}
 
 -- the spelling of a sign
 abbrev pub sign_bytes : Sign → List ℕ

@@ -5,8 +5,8 @@ use Rattle.smv_text.specs.declared.token.Reserved.{Reserved}
 use Rattle.smv_text.specs.declared.token.Sign.{Sign}
 use Rattle.smv_text.specs.declared.token.TokenKind.{TokenKind}
 use Rattle.smv_text.specs.declared.token.TokenKind.TheVariants as kind
-use Rattle.text_core.specs.Bytes.{is_digit}
-use Rattle.smv_text.specs.Bytes.{is_letter, is_blank, heads, AllPass, look_up}
+use Rattle.text_core.specs.Bytes.{is_digit, heads}
+use Rattle.smv_text.specs.Bytes.{is_letter, is_blank, AllPass, look_up}
 use Rattle.smv_text.specs.Signs.{sign_bytes, signs, may_appear}
 use Rattle.smv_text.specs.Keywords.{keywords}
 use Rattle.smv_text.specs.Numbers.{number_of, literal_of}

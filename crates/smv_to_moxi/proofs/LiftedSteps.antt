@@ -9,12 +9,12 @@ use Rattle.smv_meaning.specs.declared.value.Run.{Run}
 use Rattle.smv_flatten.specs.FlatModel.{FlatModel, flat_plain}
 use Rattle.moxi_terms.specs.declared.data.Datum.{Datum}
 use Rattle.moxi_terms.specs.Value.{at, Values}
-use Rattle.moxi_scripts.specs.Behaviour.{Trace}
+use Rattle.moxi_scripts.specs.Behaviour.{Trace, trace_of}
 use Rattle.smv_script.specs.Terms.{Coding}
 use Rattle.smv_script.specs.Script.{coding_of}
 use Rattle.smv_script_laws.specs.Decoding.{decoded_steps, decoded_state, decoded_label, run_of}
 use Rattle.smv_to_moxi.specs.declared.lift.Part.TheVariants.{State, Label}
-use Rattle.smv_to_moxi.specs.Lifting.{trace_of, read_of}
+use Rattle.smv_to_moxi.specs.Lifting.{read_of}
 use Rattle.smv_to_moxi.proofs.LiftedParts.{take_whole}
 
 pub each_there : {X : Type 0} (P : X → Type 0) (xs : List X) (k : ℕ) (x : X) → AllByRecursion P xs → slice_get xs k ≡ Some x → P x

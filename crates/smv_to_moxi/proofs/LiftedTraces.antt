@@ -8,11 +8,11 @@ use Rattle.moxi_terms.specs.Sorts.{Fit}
 use Rattle.moxi_terms.specs.Tree.{sorts_of}
 use Rattle.moxi_terms.specs.Value.{at}
 use Rattle.moxi_scripts.specs.Script.{variables_in}
-use Rattle.moxi_scripts.specs.Behaviour.{Suits}
+use Rattle.moxi_scripts.specs.Behaviour.{Suits, trace_of}
 use Rattle.smv_script.specs.Script.{symbol_sort, system_of}
 use Rattle.smv_flatten.specs.FlatModel.{FlatModel, flat_plain}
 use Rattle.smv_script_laws.specs.EnvironmentLaws.{SuitsSystem}
-use Rattle.smv_to_moxi.specs.Lifting.{trace_of, IsStepOf, IsTraceOf}
+use Rattle.smv_to_moxi.specs.Lifting.{IsStepOf, IsTraceOf}
 use Rattle.smv_to_moxi.proofs.LiftedParts.{fit_at}
 
 suits_fit : (es : List Enumeration) (sorts : List Sort) (env : List Datum) → length env ≡ length sorts → Suits es sorts (at env) → Fit es sorts env

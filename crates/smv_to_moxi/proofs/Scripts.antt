@@ -3,7 +3,6 @@ use Rattle.std.proofs.Common.{◌≡◌, ℕ, zero, suc, ◌+◌, ◌-◌, ◌<�
 use Rattle.std.specs.Prelude.{Some, slice_get}
 use Rattle.std.proofs.lemmas.List.{length-map}
 use Rattle.std.proofs.lemmas.Option.{get_or_from_slice_get, slice_get_within}
-use Rattle.smv_items.specs.declared.items.FlatItem.{FlatItem}
 use Rattle.smv_items.specs.FlatItemView.{item_plain}
 use Rattle.smv_flat.specs.declared.forms.Role.{Role}
 use Rattle.smv_flat.specs.declared.forms.Role.TheVariants.{Body, Assign, Init, Trans, Invar, Invariant}
@@ -19,14 +18,15 @@ use Rattle.moxi_terms.specs.View.{ScopeState}
 use Rattle.moxi_terms.specs.Names.{all_constants, may_be_enumeration, no_scope, with_enumeration}
 use Rattle.moxi_terms.specs.declared.term.Enumeration.{Enumeration}
 use Rattle.text_core.specs.declared.errors.NoMemory.{NoMemory}
-use Rattle.moxi_scripts.specs.Script.{PlainCheck, PlainFormula, PlainScript, PlainSystem, plain_formula}
+use Rattle.moxi_scripts.specs.Script.{PlainCheck, PlainFormula, PlainScript, PlainSystem, plain_formula, query_of}
 use Rattle.smv_flat.specs.FlatForms.{PlainFlat}
 use Rattle.smv_script.specs.Terms.{Coding}
-use Rattle.smv_script.specs.Script.{check_of, coding_of, place_of_item, queries_from, query_of, reachables_from, script_of, symbol_sort, system_of}
+use Rattle.smv_script.specs.Script.{check_of, coding_of, place_of_item, queries_from, reachables_from, script_of, symbol_sort, system_of}
 use Rattle.smv_flat.specs.declared.parts.FlatParts.{FlatParts}
 use Rattle.smv_flat.specs.FlatParts.{parts_plain}
 use Rattle.smv_to_moxi.specs.Symbols.{CanBeConstants}
 use Rattle.smv_to_moxi.specs.Assembling.{symbol_scope, check_form, is_invariant, reachable_of, script_form, script_under, script_with, system_form}
+use Rattle.text_core.proofs.ListLaws.{grown, joined, put}
 
 role_is : (r : Role) (e : FlatTree) → is_invariant r ≡ true → role_invariant r e ≡ e ∷ []
 role_is Invariant e h = refl
@@ -52,18 +52,6 @@ one_there xs i f h e = ap (λ ys. forms_invariants (map form_plain ys)) h ∙ ap
 pub none_there : (xs : List FlatFormula) (i : ℕ) (f : FlatFormula) → drop i xs ≡ f ∷ drop (i + 1) xs → is_invariant f.role ≡ false
     → forms_invariants (map form_plain (drop i xs)) ≡ forms_invariants (map form_plain (drop (i + 1) xs))
 none_there xs i f h e = ap (λ ys. forms_invariants (map form_plain ys)) h ∙ ap (λ ys. ys ++ forms_invariants (map form_plain (drop (i + 1) xs))) (role_none f.role (plain_flat f.body) e)
-
-grown : {A : Type 0} (xs : List A) (x : A) → length (xs ++ x ∷ []) ≡ length xs + 1
-grown [] x = refl
-grown (y ∷ xs) x = let r = grown xs x in omega (arith, r)
-
-joined : {A B : Type 0} (g : A → B) (xs : List A) (x : A) (ys : List B) → map g (xs ++ x ∷ []) ++ ys ≡ map g xs ++ g x ∷ ys
-joined g [] x ys = refl
-joined g (z ∷ xs) x ys = ap (λ zs. g z ∷ zs) (joined g xs x ys)
-
-put : {A : Type 0} (xs : List A) (x : A) (ys : List A) → (xs ++ x ∷ []) ++ ys ≡ xs ++ x ∷ ys
-put [] x ys = refl
-put (z ∷ xs) x ys = ap (λ zs. z ∷ zs) (put xs x ys)
 
 -- one name more is made of the next one in the list
 pub name_on : (g : List ℕ → List ℕ) (xs : List (List ℕ)) (i : ℕ) (x name : List ℕ) (all more total : List (List ℕ)) → slice_get xs i ≡ Some x → more ≡ all ++ name ∷ [] → name ≡ g x → all ++ map g (drop i xs) ≡ total

@@ -1,5 +1,5 @@
 -- Traces of the system of a flat form's script (MoXI, SPIN 2024), as lists of environments, and what is read of a step.
-use Rattle.std.specs.Prelude.{ℕ, ◌≤◌, Bool, List, [], map, length, slice_index_or}
+use Rattle.std.specs.Prelude.{ℕ, ◌≤◌, Bool, List, map, length}
 use Rattle.std.specs.List.{AllByRecursion}
 use Rattle.smv_meaning.specs.declared.value.Given.{Given}
 use Rattle.smv_items.specs.declared.items.ItemKind.{ItemKind}
@@ -12,7 +12,6 @@ use Rattle.moxi_terms.specs.Sorts.{Fit}
 use Rattle.moxi_terms.specs.Tree.{sorts_of}
 use Rattle.moxi_terms.specs.Value.{at}
 use Rattle.moxi_scripts.specs.Script.{variables_in}
-use Rattle.moxi_scripts.specs.Behaviour.{Trace}
 use Rattle.smv_script.specs.Codes.{value_of}
 use Rattle.smv_script.specs.Script.{Group, inputs, outputs, items_in, coding_of, symbol_sort, system_of}
 use Rattle.smv_script_laws.specs.Decoding.{is_of_state, is_of_label, decoded_from}
@@ -20,10 +19,6 @@ use Rattle.smv_to_moxi.specs.declared.lift.Part.{Part}
 use Rattle.smv_to_moxi.specs.declared.lift.Part.TheVariants.{State, Label}
 
 -- ---- traces
-
--- what the variables have at each step
-abbrev pub trace_of : List (List Datum) → Trace
-trace_of envs j = at (slice_index_or envs j [])
 
 -- a datum of its sort for each variable of the script's system
 abbrev pub IsStepOf : FlatModel → List Datum → Type 0

@@ -9,7 +9,8 @@ ghost use Rattle.moxi_terms.specs.Sorts.{IsOf};
 ghost use Rattle.smv_script.specs.Codes.{sort_of, value_of};
 ghost use Rattle.smv_script.specs.Script.{coding_of, group_start, symbol_sort};
 ghost use Rattle.smv_script_laws.specs.Decoding.{run_of};
-ghost use Rattle.smv_to_moxi.specs.Lifting.{IsStepOf, IsTraceOf, trace_of, picks, group_in, inputs_in, read_of, given_here, state_of, label_of};
+ghost use Rattle.smv_to_moxi.specs.Lifting.{IsStepOf, IsTraceOf, picks, group_in, inputs_in, read_of, given_here, state_of, label_of};
+ghost use Rattle.moxi_scripts.specs.Behaviour.{trace_of};
 
 use moxi_scripts::MoxiTrace;
 use moxi_terms::{Datum, Env};

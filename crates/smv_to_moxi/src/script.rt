@@ -2,7 +2,7 @@
 ghost use Rattle.moxi_terms.specs.Names.{no_scope};
 ghost use Rattle.std.specs.Prelude.{OnOk, ◌≡◌, ◌<◌, ◌≤◌, ◌^◌, ◌++◌, IfOk, length, map, codes, decimal};
 ghost use Rattle.moxi_scripts.specs.Invariant.{IsSpelled};
-ghost use Rattle.moxi_scripts.specs.Script.{plain_check, plain_formula, plain_system};
+ghost use Rattle.moxi_scripts.specs.Script.{plain_check, plain_formula, plain_system, query_of};
 ghost use Rattle.moxi_scripts.specs.ScriptView.{plain_script};
 ghost use Rattle.smv_items.specs.FlatItemView.{item_plain};
 ghost use Rattle.smv_flat.specs.FlatFormulas.{form_plain};
@@ -10,7 +10,7 @@ ghost use Rattle.smv_flat.specs.FlatParts.{parts_plain};
 ghost use Rattle.smv_flat.specs.FlatView.{plain_flat};
 ghost use Rattle.smv_flat_laws.specs.FlatTruth.{forms_invariants};
 ghost use Rattle.smv_script.specs.Ranges.{excess, forms_excess};
-ghost use Rattle.smv_script.specs.Script.{coding_of, place_of_item, query_of, queries_from, reachables_from, symbol_sort};
+ghost use Rattle.smv_script.specs.Script.{coding_of, place_of_item, queries_from, reachables_from, symbol_sort};
 ghost use Rattle.smv_script_terms.specs.Depths.{depth, forms_depth};
 ghost use Rattle.smv_script_terms.specs.Questions.{codes_of, place_at};
 ghost use Rattle.smv_script_terms.specs.FlatChains.{AreFlatChains};

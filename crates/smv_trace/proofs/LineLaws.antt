@@ -5,11 +5,12 @@ use Rattle.text_core.specs.declared.place.Refusal.{Refusal}
 use Rattle.smv_text.specs.Bytes.{front_length}
 use Rattle.smv_trace.specs.Runs.{Declarations}
 use Rattle.smv_trace_text.specs.Lines.{onto_first, lines_of, behind_line, trimmed, is_other}
-use Rattle.smv_trace.specs.Reading.{Reading, go_on, step, finished}
+use Rattle.smv_trace.specs.Reading.{Reading, step, finished}
 use Rattle.smv_trace.specs.Texts.{lines_read}
-use Rattle.smv_trace.specs.Answer.{Leaves, Finishes}
+use Rattle.smv_trace.specs.Answer.{Finishes}
 use Rattle.text_core.specs.declared.end.End.{End}
 use Rattle.text_core.specs.declared.end.End.TheVariants.{Bad, NoMemory}
+use Rattle.text_core.specs.Answers.{go_on, Leaves}
 
 -- the first line and the others, at the end of the first
 abbrev pub split_line : List ℕ → List ℕ → List (List ℕ)

@@ -13,8 +13,9 @@ use Rattle.smv_numbered.specs.declared.run.Change.{Change}
 use Rattle.smv_numbered.specs.Values.{picks, values_of, nothing_stated, stated_by}
 use Rattle.smv_numbered.specs.Runs.{stated_at, state_at, label_at, states_of, labels_of, IsRising}
 use Rattle.smv_numbered.specs.laws.Stated.{stated_push, length_all, rising_more, rising_push, ends_keep}
-use Rattle.smv_trace.specs.Reading.{Reading, is_empty, lacks, with_state, with_value}
+use Rattle.smv_trace.specs.Reading.{Reading, lacks, with_state, with_value}
 use Rattle.smv_trace.specs.Numbering.{Numbering, stated_in, reading_of, lacks_known, IsKept}
+use Rattle.text_core.specs.Bytes.{is_empty}
 
 -- ---- which items have a value
 

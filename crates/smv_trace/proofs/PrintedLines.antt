@@ -6,10 +6,11 @@ use Rattle.std.specs.Str.{bytes_eq}
 use Rattle.std.proofs.lemmas.Bool.{and_parts, cond-false}
 use Rattle.std.proofs.lemmas.Bool.Decides.{nat_tests}
 use Rattle.std.proofs.lemmas.List.{take_at, drop_at, drop_all, length-append}
-use Rattle.smv_text.specs.Bytes.{is_letter, is_blank, heads, front_length}
-use Rattle.smv_trace_text.specs.Lines.{onto_first, lines_of, past_blanks, onto_end, without_end, trimmed, is_other, behind_mark, halves, without_zeros, is_passed, numbers_before_end, numbers_of_rest, heading_numbers, value_of_rest, value_parts}
+use Rattle.smv_text.specs.Bytes.{is_letter, is_blank, front_length}
+use Rattle.smv_trace_text.specs.Lines.{onto_first, lines_of, past_blanks, onto_end, without_end, trimmed, is_other, behind_mark, halves, is_passed, numbers_before_end, numbers_of_rest, heading_numbers, value_of_rest, value_parts}
 use Rattle.smv_trace_text.specs.Texts.{heading_text, claim_front, claim_back}
 use Rattle.smv_trace.proofs.Solid.{has_no, is_solid, is_named, all_both, one_line, spaceless, letter_solid, named_solid, decimal_solid, decimal_number, decimal_bare}
+use Rattle.text_core.specs.Bytes.{heads, without_zeros}
 
 -- ---- ends of lines
 

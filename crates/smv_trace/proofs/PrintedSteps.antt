@@ -24,13 +24,14 @@ use Rattle.smv_numbered.specs.declared.heading.Heading.TheVariants.{State, Input
 use Rattle.smv_trace.specs.Runs.{Declarations, names_each}
 use Rattle.smv_numbered.specs.Values.{picks}
 use Rattle.smv_trace.specs.Values.{value_of}
-use Rattle.smv_trace.specs.Reading.{Reading, go_on, refused, ended, is_within, is_numbered, is_allowed, begun, is_define, with_value, item_line, placed_line, value_step, label_step, other_step, step}
+use Rattle.smv_trace.specs.Reading.{Reading, ended, is_within, is_numbered, is_allowed, begun, is_define, with_value, item_line, placed_line, value_step, label_step, other_step, step}
 use Rattle.smv_trace.specs.Texts.{lines_read}
 use Rattle.smv_trace.proofs.Steps.{state_heading as state_heading_step, other_line}
 use Rattle.smv_trace.proofs.Solid.{has_no, is_named, named_solid}
 use Rattle.smv_trace.proofs.PrintedLines.{lines_cut, stated_line, value_parted, no_heading, none_passed, value_trimmed, value_one_line, value_cut, indented, twice, state_heading, label_heading, state_trimmed, label_trimmed, state_one_line, label_one_line, state_cut, label_cut, state_numbers, label_numbers, label_other}
 use Rattle.smv_trace.proofs.PrintedValues.{read_again, value_solid}
 use Rattle.smv_trace.proofs.Restated.{placed_at, item_at, replaced, remaining, restated, picked, AreOf, Named, first_named}
+use Rattle.text_core.specs.Answers.{go_on, refused}
 
 -- names that differ and are words, and symbols that are words
 pub record IsTold (d : Declarations) : Type 0 where

@@ -1,12 +1,11 @@
 -- Printed values are read back, and have no blank.
-use Rattle.std.proofs.Common.{◌≡◌, ◌<◌, ◌^◌, ◌+◌, ◌*◌, ◌-◌, ◌==◌, ℕ, suc, Bool, true, false, not, ◌&&◌, ◌||◌, Option, Some, None, is_none, List, [], ◌∷◌, length, refl, ap, ◌∙◌, arith, rules}
+use Rattle.std.proofs.Common.{◌≡◌, ◌<◌, ◌^◌, ◌+◌, ◌*◌, ◌-◌, ◌==◌, ℕ, suc, Bool, true, false, not, ◌&&◌, ◌||◌, Option, Some, None, is_none, List, [], ◌∷◌, length, refl, ap, ◌∙◌, arith}
 use Rattle.std.specs.Prelude.{ℤ, pos, negsuc, neg_ℤ, int_le, is_some, nat_lt, option_map, option_and_then}
 use Rattle.std.specs.List.{list_all, list_any}
 use Rattle.std.specs.Fmt.{decimal, signed_decimal}
 use Rattle.std.specs.Str.{bytes_eq}
 use Rattle.std.proofs.lemmas.Bool.{and_parts, cond-true, cond-false}
 use Rattle.std.proofs.lemmas.Bool.Decides.{nat_tests}
-use Rattle.std.proofs.lemmas.Str.Parse.{IsNumeralModel, numerals_by_fold}
 use Rattle.std.proofs.lemmas.Fmt.{digits_value-decimal, decimal_nonempty}
 use Rattle.std.proofs.lemmas.Slice.Eq.{bytes_eq-Decides}
 use Rattle.word_core.specs.Words.{BitVector}
@@ -26,19 +25,9 @@ use Rattle.smv_trace.specs.Values.{truth_of, negative_of, integer_of, symbol_at,
 use Rattle.smv_trace.proofs.Solid.{is_solid, is_named, all_both, decimal_digits, decimal_solid, named_solid, named_some}
 use Rattle.smv_trace.proofs.Literals.{of_word, literal_again}
 use Rattle.smv_lex.proofs.Printed.{digit_value}
+use Rattle.text_core.proofs.Numerals.{value_from, numerals}
 
 -- ---- numbers
-
-abbrev digits_all : List ℕ → Bool
-digits_all [] = true
-digits_all (b ∷ bs) = is_digit b && digits_all bs
-
-abbrev value_from : ℕ → List ℕ → ℕ
-value_from n [] = n
-value_from n (b ∷ bs) = value_from (n * 10 + (b - 48)) bs
-
-numerals : IsNumeralModel (λ ds. digits_all ds ≡ true) (value_from 0)
-numerals = numerals_by_fold _ (search rules) value_from (search rules)
 
 number_is : (bs : List ℕ) (n : ℕ) → list_all is_digit bs ≡ true → number_after 10 n bs ≡ Some (value_from n bs)
 number_is [] n e = refl

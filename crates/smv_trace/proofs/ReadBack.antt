@@ -22,13 +22,15 @@ use Rattle.smv_numbered.specs.declared.heading.Heading.{Heading}
 use Rattle.smv_numbered.specs.declared.heading.Heading.TheVariants.{State, Input}
 use Rattle.smv_trace.specs.Runs.{Declarations, names_each, names_variables}
 use Rattle.smv_numbered.specs.Values.{picks, given_if, values_of, nothing_stated}
-use Rattle.smv_trace.specs.Reading.{Reading, go_on, refused, is_empty, lacks, lacks_state, labels_on, with_state, ended, most_states, most_values, variables_of, is_within, run_of, finished, begin}
+use Rattle.smv_trace.specs.Reading.{Reading, lacks, lacks_state, labels_on, with_state, ended, most_states, most_values, variables_of, is_within, run_of, finished, begin}
 use Rattle.smv_trace.specs.Texts.{lines_read, most_bytes}
 use Rattle.smv_trace.specs.ReadBack.{ReadsBack}
 use Rattle.smv_trace.proofs.Steps.{passed_step}
 use Rattle.smv_trace.proofs.PrintedLines.{claim_line, claim_cut, claim_one_line, claim_passed}
 use Rattle.smv_trace.proofs.Restated.{restated, restated_long, restated_values, others_kept, state_apart, picked, neither}
 use Rattle.smv_trace.proofs.PrintedSteps.{IsTold, reading, ComesTo, line_read, values_read, state_line_read, label_line_read}
+use Rattle.text_core.specs.Bytes.{is_empty}
+use Rattle.text_core.specs.Answers.{go_on, refused}
 
 -- ---- limits
 

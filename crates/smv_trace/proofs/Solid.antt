@@ -7,9 +7,9 @@ use Rattle.std.proofs.lemmas.Bool.{and_parts, and_from, cond-false}
 use Rattle.std.proofs.lemmas.Bool.Decides.{nat_tests}
 use Rattle.std.proofs.lemmas.List.Folds.{list_all-append}
 use Rattle.std.proofs.lemmas.Fmt.{first_decimal, decimal_nonempty}
-use Rattle.text_core.specs.Bytes.{is_digit}
+use Rattle.text_core.specs.Bytes.{is_digit, without_zeros}
 use Rattle.smv_text.specs.Bytes.{is_letter, is_blank}
-use Rattle.smv_trace_text.specs.Lines.{is_number, without_zeros}
+use Rattle.smv_trace_text.specs.Lines.{is_number}
 
 -- the byte is none of these
 abbrev pub has_no : ℕ → List ℕ → Bool

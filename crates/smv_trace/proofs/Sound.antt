@@ -7,7 +7,6 @@ use Rattle.std.proofs.lemmas.List.{length-append, length-map}
 use Rattle.std.proofs.lemmas.List.Folds.{list_all-append}
 use Rattle.std.proofs.lemmas.Slice.Eq.{bytes_eq-Decides}
 use Rattle.text_core.specs.declared.place.Place.{Place}
-use Rattle.text_core.specs.declared.place.Refusal.{Refusal}
 use Rattle.text_core.specs.Places.{start, after}
 use Rattle.word_core.specs.Words.{BitVector, IsWord}
 use Rattle.word_core.specs.Digits.{below, digits_value}
@@ -25,38 +24,19 @@ use Rattle.smv_trace.specs.Runs.{Declarations, can_be_stated, names_each, names_
 use Rattle.smv_numbered.specs.Values.{picks, given_if, values_of, nothing_stated}
 use Rattle.smv_trace_text.specs.Lines.{is_passed, heading_numbers, value_parts, behind_line, trimmed, lines_of}
 use Rattle.smv_trace.specs.Values.{truth_of, negative_of, integer_of, symbol_at, word_as, value_of}
-use Rattle.smv_trace.specs.Reading.{Reading, go_on, refused, is_empty, lacks, lacks_state, labels_on, with_state, ended, is_within, is_numbered, is_allowed, begun, heading_line, is_define, with_value, item_line, placed_line, value_step, label_step, other_step, state_step, step, run_of, finished_at, finished, begin}
+use Rattle.smv_trace.specs.Reading.{Reading, lacks, lacks_state, labels_on, with_state, ended, is_within, is_numbered, is_allowed, begun, heading_line, is_define, with_value, item_line, placed_line, value_step, label_step, other_step, state_step, step, run_of, finished_at, finished, begin}
 use Rattle.text_core.specs.declared.end.End.{End}
 use Rattle.smv_numbered.specs.declared.run.NumberedRun.{NumberedRun}
 use Rattle.smv_numbered.specs.Runs.{run_in, state_at}
-use Rattle.smv_trace.specs.Answer.{Answers, StatesRun}
+use Rattle.smv_trace.specs.Answer.{StatesRun}
 use Rattle.smv_trace.specs.Texts.{lines_read, most_bytes, trace_of}
 use Rattle.smv_trace.proofs.Literals.{literal_is_word, word_of}
 use Rattle.smv_lex.proofs.LexedAgain.{some_same}
+use Rattle.text_core.specs.Bytes.{is_empty}
+use Rattle.text_core.specs.Answers.{refused, Answers}
+use Rattle.text_core.proofs.AnswerLaws.{go_on_ok, taken, passed_by, none_refused, same_ok}
 
 -- ---- results
-
-go_on_ok : {A B : Type 0} (o : Result A Refusal) (f : A → Result B Refusal) (y : B) → go_on o f ≡ Ok y → (x : A) × (o ≡ Ok x) × (f x ≡ Ok y)
-go_on_ok (Ok x) f y e = (x, refl, e)
-go_on_ok (Err refusal) f y e = absurd (let g : Err refusal ≡ Ok y = e in cc)
-
--- the first of two outcomes, where the other is a refusal
-pub taken : {A : Type 0} (b : Bool) (o : Result A Refusal) (n : ℕ) (at : Place) (y : A) → cond b o (refused n at) ≡ Ok y → (b ≡ true) × (o ≡ Ok y)
-taken true o n at y e = (refl, e)
-taken false o n at y e = absurd (let g : refused n at ≡ Ok y = e in cc)
-
-passed_by : {A : Type 0} (b : Bool) (o : Result A Refusal) (n : ℕ) (at : Place) (y : A) → cond b (refused n at) o ≡ Ok y → (b ≡ false) × (o ≡ Ok y)
-passed_by true o n at y e = absurd (let g : refused n at ≡ Ok y = e in cc)
-passed_by false o n at y e = (refl, e)
-
-none_refused : {A : Type 0} (n : ℕ) (at : Place) (y : A) → refused n at ≡ Ok y → ⊥
-none_refused n at y e = cc
-
-abbrev done : {A : Type 0} → A → Result A Refusal
-done x = Ok x
-
-same_ok : {A : Type 0} (x y : A) → done x ≡ done y → x ≡ y
-same_ok x y e = cc
 
 -- ---- values
 

@@ -1,5 +1,5 @@
 -- Steps one behind another, and what each line is.
-use Rattle.std.proofs.Common.{◌≡◌, true, false, Option, Some, None, List, ℕ, Result, Ok, Err, refl, sym, ap, ◌∙◌, subst}
+use Rattle.std.proofs.Common.{◌≡◌, true, false, Option, Some, None, List, ℕ, Result, Ok, Err, refl, sym, ap, ◌∙◌}
 use Rattle.std.specs.Prelude.{is_some, codes, slice_get}
 use Rattle.std.proofs.lemmas.Bool.{cond-true, cond-false}
 use Rattle.text_core.specs.declared.place.Kind.TheVariants.{Y}
@@ -15,17 +15,9 @@ use Rattle.smv_trace.specs.Runs.{Declarations}
 use Rattle.smv_numbered.specs.Values.{picks}
 use Rattle.smv_trace.specs.Values.{value_of}
 use Rattle.smv_trace_text.specs.Lines.{is_passed, heading_numbers}
-use Rattle.smv_trace.specs.Reading.{Reading, go_on, ended, is_define, with_value, item_line, heading_line, other_step, state_step, step, run_of, finished_at, finished}
-use Rattle.smv_trace.specs.Answer.{Leaves, Finishes}
-
--- the first of two steps is refused
-pub first_refuses : (B : Type 0) (o : Result Reading Refusal) (f : Reading → Result Reading Refusal) (q new : Reading) (e : End) → Leaves {B = B} o q (Err e) → Leaves {B = B} (go_on o f) new (Err e)
-first_refuses B o f q new (Bad refusal) h = ap (λ x. go_on x f) h
-first_refuses B o f q new NoMemory h = tt
-
--- or goes on
-pub then_leaves : {B : Type 0} (o : Result Reading Refusal) (f : Reading → Result Reading Refusal) (q new : Reading) (r : Result B End) → o ≡ Ok q → Leaves (f q) new r → Leaves (go_on o f) new r
-then_leaves o f q new r e h = subst (λ (x : Result Reading Refusal). Leaves (go_on x f) new r) (sym e) h
+use Rattle.smv_trace.specs.Reading.{Reading, ended, is_define, with_value, item_line, heading_line, other_step, state_step, step, run_of, finished_at, finished}
+use Rattle.smv_trace.specs.Answer.{Finishes}
+use Rattle.text_core.specs.Answers.{go_on, Leaves}
 
 -- the last step gives the run
 last_finishes : {B : Type 0} (o : Result Reading Refusal) (new : Reading) (r : Result B End) → Leaves o new r → Finishes (go_on o run_of) new r

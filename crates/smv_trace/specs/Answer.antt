@@ -15,18 +15,7 @@ use Rattle.smv_trace.specs.declared.fault.ValueFault.{ValueFault}
 use Rattle.smv_trace.specs.declared.fault.ValueFault.TheVariants as fault
 use Rattle.smv_trace.specs.Runs.{Declarations}
 use Rattle.smv_trace.specs.Reading.{Reading, run_of}
-
--- this result or this refusal, or want of memory
-abbrev pub Answers : {A : Type 0} → Result A Refusal → Result A End → Type 0
-Answers wanted (Ok x) = wanted ≡ Ok x
-Answers wanted (Err (Bad refusal)) = wanted ≡ Err refusal
-Answers wanted (Err NoMemory) = Unit {0}
-
--- the same of a step that leaves what it is to come to
-abbrev pub Leaves : {A B : Type 0} → Result A Refusal → A → Result B End → Type 0
-Leaves wanted new (Ok done) = wanted ≡ Ok new
-Leaves wanted new (Err (Bad refusal)) = wanted ≡ Err refusal
-Leaves wanted new (Err NoMemory) = Unit {0}
+use Rattle.text_core.specs.Answers.{Leaves}
 
 -- the same at the end of a text
 abbrev pub Finishes : {B : Type 0} → Result Run Refusal → Reading → Result B End → Type 0

@@ -1,9 +1,8 @@
 -- What each line of a trace does, by where its reading stands.
-use Rattle.std.specs.Prelude.{◌+◌, ◌*◌, ℕ, Bool, true, false, not, ◌&&◌, ◌||◌, nat_le, if◌then◌else◌, Option, Some, None, is_none, Result, Ok, Err, List, [], ◌∷◌, ◌++◌, length, map, codes, decimal, slice_get, slice_set}
+use Rattle.std.specs.Prelude.{◌+◌, ◌*◌, ℕ, Bool, true, false, not, ◌&&◌, ◌||◌, nat_le, if◌then◌else◌, Option, Some, None, is_none, Result, Ok, List, [], ◌∷◌, ◌++◌, length, map, codes, decimal, slice_get, slice_set}
 use Rattle.std.specs.List.{filter}
 use Rattle.std.specs.Str.{bytes_eq}
 use Rattle.text_core.specs.declared.place.Place.{Place}
-use Rattle.text_core.specs.declared.place.Kind.TheVariants.{Y}
 use Rattle.text_core.specs.declared.place.Refusal.{Refusal}
 use Rattle.smv_meaning.specs.declared.value.Value.{Value}
 use Rattle.smv_meaning.specs.declared.value.Given.{Given}
@@ -19,6 +18,8 @@ use Rattle.smv_numbered.specs.Values.{picks, values_of, nothing_stated}
 use Rattle.smv_trace.specs.Runs.{Declarations}
 use Rattle.smv_trace_text.specs.Lines.{is_passed, heading_numbers, value_parts}
 use Rattle.smv_trace.specs.Values.{value_of}
+use Rattle.text_core.specs.Bytes.{is_empty}
+use Rattle.text_core.specs.Answers.{go_on, refused}
 
 -- where the reading stands: the last heading and its place, the first number of the headings, the last value that is stated for
 -- each item, and the states and labels that are whole
@@ -29,17 +30,6 @@ pub record Reading : Type 0 where
   pub stated : List (Option Value)
   pub states : List (List Given)
   pub labels : List (List Given)
-
-abbrev pub go_on : {A B : Type 0} → Result A Refusal → (A → Result B Refusal) → Result B Refusal
-go_on (Ok x) f = f x
-go_on (Err refusal) f = Err refusal
-
-abbrev pub refused : {A : Type 0} → ℕ → Place → Result A Refusal
-refused n at = Err (record { kind = Y n; place = at })
-
-abbrev pub is_empty : {A : Type 0} → List A → Bool
-is_empty [] = true
-is_empty (x ∷ xs) = false
 
 -- ---- states and labels
 

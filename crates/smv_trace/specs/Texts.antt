@@ -7,7 +7,8 @@ use Rattle.text_core.specs.Places.{start, after}
 use Rattle.smv_meaning.specs.declared.value.Run.{Run}
 use Rattle.smv_trace.specs.Runs.{Declarations}
 use Rattle.smv_trace_text.specs.Lines.{lines_of, behind_line, trimmed}
-use Rattle.smv_trace.specs.Reading.{Reading, go_on, refused, step, finished, begin}
+use Rattle.smv_trace.specs.Reading.{Reading, step, finished, begin}
+use Rattle.text_core.specs.Answers.{go_on, refused}
 
 -- the lines from this place on, read one after another, where the text ends at this place
 abbrev pub lines_read : Declarations → Place → Place → List (List ℕ) → Reading → Result Run Refusal

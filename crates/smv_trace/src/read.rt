@@ -7,7 +7,8 @@ ghost use Rattle.smv_trace.specs.Runs.{IsStatedRun};
 ghost use Rattle.smv_trace.specs.Reading.{is_within};
 ghost use Rattle.smv_trace.specs.Numbering.{reading_of};
 ghost use Rattle.smv_trace.specs.Texts.{lines_read, trace_of};
-ghost use Rattle.smv_trace.specs.Answer.{Answers, Finishes, StatesRun, declarations_of};
+ghost use Rattle.smv_trace.specs.Answer.{Finishes, StatesRun, declarations_of};
+ghost use Rattle.text_core.specs.Answers.{Answers};
 
 use crate::reader::{MOST_BYTES, Reader, refused};
 use crate::table::Table;

@@ -8,8 +8,10 @@ ghost use Rattle.smv_numbered.specs.Values.{picks};
 ghost use Rattle.smv_numbered.specs.Runs.{IsNumbered};
 ghost use Rattle.smv_trace_text.specs.Lines.{heading_numbers, value_parts};
 ghost use Rattle.smv_trace.specs.Numbering.{begun_with, lacks_known, reading_of, stated_in};
-ghost use Rattle.smv_trace.specs.Reading.{lacks, lacks_state, with_state, ended, is_within, is_numbered, is_allowed, is_empty, begun, heading_line, is_define, with_value, placed_line, value_line, value_step, other_step, state_step, step, finished};
-ghost use Rattle.smv_trace.specs.Answer.{Leaves, Finishes, Takes};
+ghost use Rattle.smv_trace.specs.Reading.{lacks, lacks_state, with_state, ended, is_within, is_numbered, is_allowed, begun, heading_line, is_define, with_value, placed_line, value_line, value_step, other_step, state_step, step, finished};
+ghost use Rattle.smv_trace.specs.Answer.{Finishes, Takes};
+ghost use Rattle.text_core.specs.Bytes.{is_empty};
+ghost use Rattle.text_core.specs.Answers.{Leaves};
 
 use crate::fault::ValueFault;
 use crate::table::Table;

@@ -2,9 +2,9 @@
 use Rattle.std.specs.Prelude.{◌==◌, ◌+◌, ℕ, Bool, true, false, not, ◌&&◌, if◌then◌else◌, Option, Some, None, is_none, option_and_then, List, [], ◌∷◌, length, take, drop, codes}
 use Rattle.std.specs.List.{list_all}
 use Rattle.std.specs.Str.{bytes_eq}
-use Rattle.text_core.specs.Bytes.{is_digit}
+use Rattle.text_core.specs.Bytes.{is_digit, heads, without_zeros}
 use Rattle.text_core.specs.declared.place.Place.{Place}
-use Rattle.smv_text.specs.Bytes.{is_blank, heads, front_length}
+use Rattle.smv_text.specs.Bytes.{is_blank, front_length}
 
 -- ---- lines
 
@@ -57,11 +57,6 @@ halves mark bs = behind_mark (take (front_length (is_other mark) bs) bs) (drop (
 abbrev pub is_number : List ℕ → Bool
 is_number [] = false
 is_number (b ∷ bs) = list_all is_digit (b ∷ bs)
-
--- two numbers are one where their digits are, but for zeros at the front
-abbrev pub without_zeros : List ℕ → List ℕ
-without_zeros [] = []
-without_zeros (b ∷ bs) = if b == 48 then without_zeros bs else b ∷ bs
 
 -- ---- shapes
 

@@ -1,9 +1,9 @@
 // Lines of a trace, each parsed by itself.
 ghost use Rattle.std.specs.Prelude.{◌≡◌, ◌≤◌, ℕ, List, None, false, length};
 ghost use Rattle.std.specs.List.{list_all};
-ghost use Rattle.text_core.specs.Bytes.{is_digit};
-ghost use Rattle.smv_text.specs.Bytes.{is_blank, front_length, heads};
-ghost use Rattle.smv_trace_text.specs.Lines.{past_blanks, without_end, trimmed, is_other, halves, is_number, without_zeros, is_passed, numbers_in, numbers_before_end, numbers_behind, heading_numbers, value_of_rest, value_parts};
+ghost use Rattle.text_core.specs.Bytes.{is_digit, heads, without_zeros};
+ghost use Rattle.smv_text.specs.Bytes.{is_blank, front_length};
+ghost use Rattle.smv_trace_text.specs.Lines.{past_blanks, without_end, trimmed, is_other, halves, is_number, is_passed, numbers_in, numbers_before_end, numbers_behind, heading_numbers, value_of_rest, value_parts};
 ghost use Rattle.smv_trace_text.specs.Parts.{seen};
 
 use memchr::memchr;

@@ -1,13 +1,12 @@
 -- The outcome of an expression's checks: its type, or the first refusal (kinds and order are this translator's own).
 use Rattle.std.specs.Prelude.{◌≡◌, ℕ, true, false, Bool, ◌&&◌, Option, Some, None, option_map, Result, Ok, Err}
 use Rattle.text_core.specs.declared.end.End.{End}
-use Rattle.text_core.specs.declared.end.End.TheVariants.{Bad, NoMemory}
 use Rattle.text_core.specs.declared.place.Place.{Place}
 use Rattle.text_core.specs.declared.place.Refusal.{Refusal}
 use Rattle.smv_text.specs.declared.tree.Path.{Path}
 use Rattle.smv_text.specs.Tree.{Tree, truth, number, literal, name, prefix, chain, choice, cases, select, call, next, set, range, Links, no_links, link, Branches, no_branches, branch, Trees, no_trees, tree}
 use Rattle.smv_meaning.specs.Types.{ExprType}
-use Rattle.smv_meaning.specs.Checks.{check, first_failing, Typing}
+use Rattle.smv_meaning.specs.Checks.{check, first_failing, Typing, IsBad}
 use Rattle.smv_intervals.specs.declared.types.Ty.{Ty}
 use Rattle.smv_intervals.specs.View.{seen}
 
@@ -21,11 +20,6 @@ outcome t = verdict (first_failing t.checks) t.type
 -- the refusal of a kind at a place
 abbrev pub refusal_at : ℕ → Place → Refusal
 refusal_at n p = (check n p false).refusal
-
--- the refusal is the one found; of want of memory nothing is said
-abbrev pub IsBad : End → Option Refusal → Type 0
-IsBad (Bad why) found = found ≡ Some why
-IsBad NoMemory found = Unit {0}
 
 abbrev pub Answers : Result (Option Ty) Refusal → Typing → Type 0
 Answers (Ok o) t = outcome t ≡ Ok (option_map seen o)

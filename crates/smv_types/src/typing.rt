@@ -4,10 +4,10 @@ ghost use Rattle.std.specs.List.{list_all};
 ghost use Rattle.smv_text.specs.Tree.{prefix, cases, select, call, next, set, links_of, branches_of, trees_of};
 ghost use Rattle.smv_text.specs.View.{plain, plain_link, plain_branch};
 ghost use Rattle.smv_meaning.specs.Expressions.{paths_of};
-ghost use Rattle.smv_meaning.specs.Checks.{typing, single, linked, tree_checks, tree_types, link_checks, link_types, branch_checks, condition_types, value_types, first_failing};
+ghost use Rattle.smv_meaning.specs.Checks.{typing, single, linked, tree_checks, tree_types, link_checks, link_types, branch_checks, condition_types, value_types, first_failing, IsBad};
 ghost use Rattle.smv_intervals.specs.View.{seen};
 ghost use Rattle.smv_types.specs.View.{permissions_seen, position_seen};
-ghost use Rattle.smv_types.specs.Outcome.{Ends, IsBad, is_known, links_known, branches_known, trees_known};
+ghost use Rattle.smv_types.specs.Outcome.{Ends, is_known, links_known, branches_known, trees_known};
 ghost use Rattle.smv_types.specs.Steps.{passed};
 ghost use Rattle.smv_types.specs.Operands.{EndsChain, implications_typing, EndsChoice};
 

@@ -13,6 +13,7 @@ use Rattle.smv_flat.specs.declared.expressions.FlatLink.{FlatLink}
 use Rattle.smv_flat.specs.FlatTree.{FlatTree, FlatLinks, flat_chain, flat_link, flat_links_of}
 use Rattle.smv_flat.specs.FlatView.{flat_shape_step, plain_flat, plain_flat_link}
 use Rattle.smv_width.specs.FlatWidth.{digits_within, binary_digits, node_width, flat_type, flat_divisor, front_by, operand_width, tree_width, links_width}
+use Rattle.smv_flat.proofs.FlatViews.{link_at}
 
 -- ---- digits
 
@@ -69,9 +70,6 @@ leading_digits n h =
     omega (arith, some, left)
 
 -- ---- fronts
-
-pub link_at : (l : FlatLink) → plain_flat_link l ≡ (l.op, plain_flat l.operand)
-link_at l = search (rules, the_lemmas)
 
 step_type : (s : FlatShape-F (Option ExprType → FlatTree) (FlatTree × FlatTree) FlatTree (Infix × FlatTree)) (t : Option ExprType) → flat_type (flat_shape_step s t) ≡ t
 step_type FlatShape-F.True t = refl

@@ -1,6 +1,5 @@
 -- Words and files define one answer, and what that says of a run.
 use Rattle.std.proofs.Common.{zero, suc, ◌≡◌, ◌≢◌, ◌⊎◌, inl, inr, List, [], ℕ, Option, Some, None, Ok, ◌≤◌, length, refl, sym, ap, ◌∙◌, subst, take, arith}
-use Rattle.std.proofs.lemmas.List.{append-nil}
 use Rattle.std.specs.Prelude.{IfSome}
 use Rattle.text_core.specs.Outside.{Files, file_at, grown, HasNewFault}
 use Rattle.text_core.specs.declared.place.Refusal.{Refusal}
@@ -66,6 +65,7 @@ use Rattle.generate.specs.Generating.{IsGenerated}
 use Rattle.generate.specs.Laws.{OneGenerated}
 use Rattle.top_call.proofs.Summaries as generated
 use Rattle.moxi_commands.proofs.Moxi.{one_moxi_lift}
+use Rattle.text_core.proofs.OutsideLemmas.{grown_nothing}
 
 -- words and files define one answer
 pub one_answer : (once : OneGenerated) → (command : Option Command) (fs : Files) (a b : Answer) → Answers command fs a → Answers command fs b → a ≡ b
@@ -180,10 +180,6 @@ pub run_absent : (once : OneGenerated) → (files : Option Files) (command : Opt
 run_absent once None command faulted a s m ends absent = absurd absent
 run_absent once (Some fs) command faulted a s m ends absent =
     elim ends [ inl e ↦ inl (e ∙ unread_by once fs command faulted a absent.0 m absent.1) | inr w ↦ inr (inl w) ]
-
-grown_nothing : (before : Option (List ℕ)) → grown before [] ≡ before
-grown_nothing None = refl
-grown_nothing (Some taken) = ap Some (append-nil taken)
 
 -- nothing was taken
 pub none_put : (files : Option Files) (words : List (List ℕ)) (before : Option (List ℕ)) → IfSome files (λ fs. (a : Answer) → outcome_of words fs a → IsPart before before (text_of a))

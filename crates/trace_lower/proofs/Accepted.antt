@@ -23,7 +23,7 @@ use Rattle.smv_flat.specs.FlatForms.{flat_smv}
 use Rattle.smv_width.specs.FlatWidth.{width_of}
 use Rattle.smv_flatten.specs.FlatModel.{IsRead}
 use Rattle.smv_judge.proofs.StepLaws.{own_label}
-use Rattle.smv_script.specs.Script.{check_of, query_of, script_for}
+use Rattle.smv_script.specs.Script.{check_of, script_for}
 use Rattle.smv_script_laws.specs.EnvironmentLaws.{environment_in}
 use Rattle.smv_script_laws.specs.ValidLaws.{ScriptsAreValid}
 use Rattle.smv_script_laws.proofs.Queries.{has_queries_law}
@@ -33,7 +33,7 @@ use Rattle.moxi_terms.specs.declared.term.Enumeration.{Enumeration}
 use Rattle.moxi_terms.specs.Sorts.{Fit}
 use Rattle.moxi_terms.specs.Tree.{sorts_of}
 use Rattle.moxi_terms.specs.Value.{Values, at}
-use Rattle.moxi_scripts.specs.Behaviour.{Trace}
+use Rattle.moxi_scripts.specs.Behaviour.{Trace, trace_of}
 use Rattle.moxi_scripts.specs.Valid.{IsValidQuery, check_variables}
 use Rattle.moxi_scripts.specs.laws.WholeParts.{all_at}
 use Rattle.moxi_flat.specs.FlatLaws.{TracesHaveFlatTraces}
@@ -42,7 +42,7 @@ use Rattle.moxi_layout.specs.LayoutLaws.{IsLaidOut}
 use Rattle.moxi_layout.proofs.Entries.{input_count, sorts_long}
 use Rattle.moxi_layout.proofs.Same.{meets_same}
 use Rattle.moxi_layout.proofs.Terms.{Agree}
-use Rattle.moxi_lift.specs.Laws.{MeetsQueryOf, trace_of}
+use Rattle.moxi_lift.specs.Laws.{MeetsQueryOf}
 use Rattle.moxi_lift.specs.Lifted.{values_upto}
 use Rattle.moxi_lift.proofs.Upto.{at_upto}
 use Rattle.moxi_lower.specs.Laws.{AreSteps, LoweredAreJudged, LoweredAreWitnesses}
@@ -53,6 +53,7 @@ use Rattle.trace_lower.specs.Laws.{LoweredAreAccepted}
 use Rattle.trace_lower.specs.Lowered.{steps_in}
 use Rattle.trace_lower.proofs.Meeting.{broken_there, environment_there, meets}
 use Rattle.trace_lower.proofs.Steps.{each_step, last_label, nth, step_at, step_of, steps_long, upto_fits}
+use Rattle.moxi_scripts.specs.Script.{query_of}
 
 -- ---- rising order
 

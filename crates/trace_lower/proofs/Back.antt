@@ -50,7 +50,6 @@ use Rattle.smv_script_laws.proofs.Steps.{Fit as FitsRow}
 use Rattle.moxi_terms.specs.declared.data.Datum.{Datum}
 use Rattle.moxi_terms.specs.Value.{Values, at}
 use Rattle.moxi_scripts.specs.Valid.{check_variables}
-use Rattle.moxi_lift.specs.Laws.{trace_of}
 use Rattle.moxi_lift.proofs.Upto.{at_upto}
 use Rattle.moxi_lower.specs.Laws.{LoweredAreLifted}
 use Rattle.witness_lift.specs.LineLaws.{model_system}
@@ -60,6 +59,7 @@ use Rattle.trace_lower.proofs.Accepted.{last_fits, run_steps, variables_long}
 use Rattle.trace_lower.proofs.Meeting.{HasFits, environment_there}
 use Rattle.trace_lower.proofs.Steps.{last_label, nth, step_at, step_of, steps_long}
 use Rattle.smv_script_laws.proofs.RowEnvironments.{same_item}
+use Rattle.moxi_scripts.specs.Behaviour.{trace_of}
 
 -- ---- names that differ
 

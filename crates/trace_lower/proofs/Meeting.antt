@@ -14,11 +14,11 @@ use Rattle.smv_flat.specs.FlatForms.{flat_smv}
 use Rattle.smv_width.specs.FlatWidth.{width_of}
 use Rattle.smv_flatten.specs.FlatModel.{IsRead}
 use Rattle.moxi_terms.specs.Value.{Calls, Values}
-use Rattle.moxi_scripts.specs.Script.{calls_in}
+use Rattle.moxi_scripts.specs.Script.{calls_in, query_of}
 use Rattle.moxi_scripts.specs.Behaviour.{behaves, no_subsystems, FormulasHold, Holds, Trace}
 use Rattle.moxi_scripts.specs.Meeting.{MeetsQuery, Reaches}
 use Rattle.smv_script.specs.Terms.{Coding}
-use Rattle.smv_script.specs.Script.{coding_of, formula_of, query_of, script_for, system_of}
+use Rattle.smv_script.specs.Script.{coding_of, formula_of, script_for, system_of}
 use Rattle.smv_script_laws.specs.EnvironmentLaws.{HasEnvironment, IsEnvironmentOf, environment_in}
 use Rattle.smv_script_laws.specs.RunLaws.{invariant_count}
 use Rattle.smv_script_laws.proofs.Environments.{rows_have_environments_law}

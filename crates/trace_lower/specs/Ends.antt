@@ -3,15 +3,9 @@ use Rattle.std.specs.Prelude.{◌≡◌, ℕ}
 use Rattle.text_core.specs.declared.verdict.Verdict.TheVariants as verdict
 use Rattle.smv_text.specs.Tree.{PlainSource}
 use Rattle.smv_meaning.specs.declared.value.Run.{Run}
-use Rattle.smv_flatten.specs.FlatModel.{FlatModel}
-use Rattle.witness_lift.specs.Breaking.{IsFormOf}
 use Rattle.trace_lower.specs.Lowered.{verdict_on}
 use Rattle.trace_lower.specs.declared.lower.LowerEnd.{LowerEnd}
 use Rattle.trace_lower.specs.declared.lower.LowerEnd.TheVariants.{No, NoMemory}
-
--- some model has this flat form
-abbrev pub HasForm : FlatModel → Type 0
-HasForm f = (source : PlainSource) × IsFormOf source f
 
 -- the judge says No, with this step and clause; of want of memory nothing is said
 abbrev pub IsLowerEnd : PlainSource → ℕ → Run → LowerEnd → Type 0

@@ -14,10 +14,10 @@ use Rattle.smv_flatten.specs.FlatModel.{IsRead}
 use Rattle.smv_trace.specs.Runs.{Declarations, IsStatedRun}
 use Rattle.smv_script_laws.specs.RunLaws.{decoded_run}
 use Rattle.moxi_layout.specs.LayoutLaws.{IsLaidOut}
-use Rattle.moxi_lift.specs.Laws.{trace_of}
 use Rattle.moxi_lift.specs.Lifted.{lifted}
 use Rattle.witness_lift.specs.LineLaws.{model_system}
 use Rattle.trace_lower.specs.Lowered.{lowered, verdict_on}
+use Rattle.moxi_scripts.specs.Behaviour.{trace_of}
 
 -- It is a witness for the lines, the judge accepts it, and its statements are in rising order.
 pub record IsAcceptedBy (lines : List Line) (w : Witness) : Type 0 where

@@ -7,8 +7,8 @@ ghost use Rattle.smv_meaning.specs.Phases.{IsAccepted};
 ghost use Rattle.smv_items.specs.FlatItemView.{item_plain};
 ghost use Rattle.smv_flatten.specs.FlatModel.{IsRead, flat_plain};
 ghost use Rattle.smv_numbered.specs.Runs.{IsNumbered, run_in};
-ghost use Rattle.witness_lift.specs.Breaking.{IsFormOf};
-ghost use Rattle.trace_lower.specs.Ends.{HasForm, IsLowerEnd};
+ghost use Rattle.witness_lift.specs.Breaking.{IsFormOf, HasForm};
+ghost use Rattle.trace_lower.specs.Ends.{IsLowerEnd};
 ghost use Rattle.trace_lower.specs.Lowered.{lowered, verdict_on};
 ghost use Rattle.trace_lower.specs.Stating.{frame_of as frame_in, variable_count};
 

@@ -3,10 +3,10 @@ use Rattle.std.proofs.Common.{◌≡◌, ℕ, ◌<◌, List, Some, map, refl}
 use Rattle.std.specs.Prelude.{◌↔◌, slice_get}
 use Rattle.smv_text.specs.Tree.{PlainSource}
 use Rattle.smv_meaning.specs.Values.{Valuation, given}
-use Rattle.smv_script.specs.Script.{query_of, script_for}
+use Rattle.smv_script.specs.Script.{script_for}
 use Rattle.smv_script_laws.specs.RunLaws.{BreaksAt, HasQueries, decoded_run, HasRun, invariant_count}
 use Rattle.moxi_scripts.specs.declared.script.Query.{Query}
-use Rattle.moxi_scripts.specs.Script.{PlainScript}
+use Rattle.moxi_scripts.specs.Script.{PlainScript, query_of}
 use Rattle.moxi_scripts.specs.Behaviour.{Trace}
 use Rattle.moxi_scripts.specs.Meeting.{MeetsQuery}
 use Rattle.moxi_flat.specs.FlatMeeting.{MeetsFlat}

@@ -12,8 +12,8 @@ use Rattle.moxi_terms.specs.declared.term.Variable.{Variable}
 use Rattle.moxi_terms.specs.View.{ScopeState}
 use Rattle.moxi_flat.specs.FlatSystem.{PlainFlatSystem, flat_of}
 use Rattle.moxi_lines.specs.Lines.{lines_of}
-use Rattle.moxi_lift.specs.Laws.{trace_of}
 use Rattle.moxi_lift.specs.Lifted.{lifted, lifted_step}
+use Rattle.moxi_scripts.specs.Behaviour.{trace_of}
 
 -- the flat system of a flat form's script
 abbrev pub system_in : FlatModel → PlainFlatSystem

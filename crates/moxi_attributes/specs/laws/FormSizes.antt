@@ -19,12 +19,9 @@ use Rattle.moxi_scripts.specs.Attributes.{count_of, is_behind, shape_holds, turn
 use Rattle.moxi_scripts.specs.Entries.{entries_of, entry_in, entry_of}
 use Rattle.moxi_scripts.specs.Lists.{all_entries, is_free, listed_entries, lists_in, possible_among, possible_entries, possible_in, possible_symbol, text_entries}
 use Rattle.moxi_scripts.specs.Shapes.{HeadedForms, NamedForm, headed, headed_by, named, named_by, named_in, parts_of}
+use Rattle.moxi_term_reading.proofs.BoundLaws.{nodes_some}
 
 -- FORMS IN FORMS
-
-pub nodes_some : (t : Tree) → 1 ≤ nodes t
-nodes_some (atom p a) = omega arith
-nodes_some (list p ts) = let g : 1 ≤ suc (all_nodes ts) = omega arith in g
 
 pub parts_few : (t : Tree) (ts : Trees) → parts_of t ≡ Some ts → suc (all_nodes ts) ≤ nodes t
 parts_few (atom p a) ts e = absurd (none-some ts e)

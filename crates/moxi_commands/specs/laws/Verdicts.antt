@@ -8,13 +8,13 @@ use Rattle.moxi_scripts.specs.Script.{PlainScript}
 use Rattle.moxi_scripts.specs.Asking.{query_at}
 use Rattle.moxi_scripts.specs.Meeting.{judged_moxi}
 use Rattle.moxi_flat.specs.FlatMeeting.{hidden_values}
-use Rattle.moxi_judge.specs.Judging.{trace_of}
 use Rattle.moxi_trace.specs.declared.point.Answered.{Answered}
 use Rattle.moxi_trace.specs.Responses.{response_of}
 use Rattle.moxi_responses.specs.Declaring.{declared_of}
 use Rattle.command_core.specs.declared.answer.Answer.{Answer}
 use Rattle.command_core.specs.Reading.{SaysRead}
 use Rattle.moxi_commands.specs.Judgement.{OfText, of_response, verdict_answer}
+use Rattle.moxi_scripts.specs.Behaviour.{trace_of}
 
 answer_says : (s : PlainScript) (r : Answered) (v : Verdict) → SaysRead (verdict_answer s r v)
 answer_says s r Yes = tt

@@ -23,10 +23,6 @@ pub all_parts : {A : Type 0} (P : A → Type 0) (xs ys : List A) → AllByRecurs
 all_parts P [] ys a = (tt, a)
 all_parts P (x ∷ xs) ys a = let p = all_parts P xs ys a.1 in ((a.0, p.0), p.1)
 
-pub all_of : {A : Type 0} (P Q : A → Type 0) (xs : List A) → ((x : A) → P x → Q x) → AllByRecursion P xs → AllByRecursion Q xs
-all_of P Q [] f a = tt
-all_of P Q (x ∷ xs) f a = (f x a.0, all_of P Q xs f a.1)
-
 pub all_map : {A B : Type 0} (f : A → B) (P : B → Type 0) (xs : List A) → AllByRecursion (λ (x : A). P (f x)) xs → AllByRecursion P (map f xs)
 all_map f P [] a = tt
 all_map f P (x ∷ xs) a = (a.0, all_map f P xs a.1)

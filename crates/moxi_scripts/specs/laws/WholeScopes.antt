@@ -1,11 +1,10 @@
 -- Scopes that grow: what is declared stays as it is, and the names that are added are new.
-use Rattle.std.proofs.Common.{◌≡◌, ◌⊎◌, ℕ, zero, suc, ◌<◌, Bool, true, false, not, ◌||◌, is_none, is_some, Option, None, Some, List, [], ◌∷◌, ◌++◌, map, take, length, refl, sym, ap, ◌∙◌, subst, arith, append_assoc, append-nil, inl, inr}
-use Rattle.std.specs.Prelude.{slice_get, codes}
+use Rattle.std.proofs.Common.{◌≡◌, ℕ, ◌<◌, Bool, true, false, not, ◌||◌, is_none, is_some, Option, None, Some, List, [], ◌∷◌, ◌++◌, map, take, length, refl, sym, ap, ◌∙◌, subst, arith, append_assoc, append-nil, inl, inr}
+use Rattle.std.specs.Prelude.{codes}
 use Rattle.std.specs.List.{AllByRecursion, list_any}
 use Rattle.std.specs.Str.{bytes_eq}
 use Rattle.std.proofs.lemmas.Bool.{and_parts}
 use Rattle.std.proofs.lemmas.List.{length-append, take-append-le}
-use Rattle.std.proofs.lemmas.Option.{none-some, same_Some}
 use Rattle.moxi_terms.specs.declared.data.Sort.{Sort}
 use Rattle.moxi_terms.specs.declared.data.Sort.TheVariants.{Truth, Bits, Choice}
 use Rattle.moxi_terms.specs.declared.data.Datum.{Datum}
@@ -22,8 +21,9 @@ use Rattle.moxi_terms.specs.Words.{is_operator}
 use Rattle.moxi_scripts.specs.Valid.{AreNames, is_fixed_sort, is_fixed_term}
 use Rattle.moxi_scripts.specs.laws.ListLaws.{get_left}
 use Rattle.moxi_scripts.specs.laws.WholeNames.{Absent, absent_append, absent_is, absent_parts, absent_swap, fresh_between, fresh_more, fresh_end, not_true, or_both, or_parts}
-use Rattle.moxi_scripts.specs.laws.WholeParts.{all_append, all_of, all_parts, get_below, map_append}
+use Rattle.moxi_scripts.specs.laws.WholeParts.{all_append, all_parts, get_below, map_append}
 use Rattle.name_maps.specs.laws.Places.{placed}
+use Rattle.moxi_terms.proofs.ScopeLaws.{all_of, append_cases}
 
 -- THE NAMES OF A SCOPE
 
@@ -245,15 +245,6 @@ function_stays es more fs f h = record {
   unprimed = h.unprimed;
   body = sorted_stays es more fs (sorts_of f.parameters) [] f.body f.result h.body;
 }
-
-pub append_cases : {A : Type 0} (xs : List A) (x y : A) (j : ℕ) → slice_get (xs ++ x ∷ []) j ≡ Some y → (slice_get xs j ≡ Some y × (j < length xs)) ⊎ ((j ≡ length xs) × (x ≡ y))
-append_cases [] x y zero h = inr (refl, same_Some x y h)
-append_cases [] x y (suc j) h = absurd (none-some y h)
-append_cases (z ∷ zs) x y zero h = inl (h, omega arith)
-append_cases (z ∷ zs) x y (suc j) h = elim (append_cases zs x y j h) [
-  | inl p ↦ inl (p.0, (let l : j < length zs = p.1 in omega arith))
-  | inr p ↦ inr (ap suc p.0, p.1)
-]
 
 pub take_whole : {A : Type 0} (xs ys : List A) → take (length xs) (xs ++ ys) ≡ xs
 take_whole [] ys = refl

@@ -30,7 +30,8 @@ use Rattle.moxi_term_reading.specs.Finding.{Found, first_of, last_of}
 use Rattle.moxi_term_reading.specs.Answer.{locals_of}
 use Rattle.moxi_term_reading.specs.WellSorted.{HaveKnownSorts}
 use Rattle.moxi_terms.proofs.SortLaws.{same_sorts_are, same_ok}
-use Rattle.moxi_term_reading.specs.laws.AllLaws.{all_append, all_of, all_at}
+use Rattle.moxi_term_reading.specs.laws.AllLaws.{all_of, all_at}
+use Rattle.text_core.proofs.ListLaws.{all_append}
 
 -- TESTS THAT HOLD
 

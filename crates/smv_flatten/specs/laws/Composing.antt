@@ -2,8 +2,7 @@
 use Rattle.std.proofs.Common.{◌≡◌, Bool, true, false, List, [], ◌∷◌, ◌++◌, ◌&&◌, Some, None, if◌then◌else◌, IsTrue, refl}
 use Rattle.text_core.specs.declared.end.End.{End}
 use Rattle.text_core.specs.declared.place.Refusal.{Refusal}
-use Rattle.smv_meaning.specs.Checks.{Check, passes, first_failing}
-use Rattle.smv_names.specs.Outcome.{IsBad}
+use Rattle.smv_meaning.specs.Checks.{Check, passes, first_failing, IsBad}
 use Rattle.smv_names.specs.laws.Composing as composing
 
 pub ends : (e : End) (xs ys : List Check) → IsBad e (first_failing xs) → IsBad e (first_failing (xs ++ ys))

@@ -25,15 +25,15 @@ use Rattle.smv_items.specs.Counts.{AreFew}
 
 -- ---- sums
 
-abbrev total {ℓ} : {X : Type ℓ} → (X → ℕ) → List X → ℕ
+abbrev pub total {ℓ} : {X : Type ℓ} → (X → ℕ) → List X → ℕ
 total f [] = 0
 total f (x ∷ xs) = f x + total f xs
 
-total_append : {X : Type 0} (f : X → ℕ) (xs ys : List X) → total f (xs ++ ys) ≡ total f xs + total f ys
+pub total_append : {X : Type 0} (f : X → ℕ) (xs ys : List X) → total f (xs ++ ys) ≡ total f xs + total f ys
 total_append f [] ys = omega arith
 total_append f (x ∷ xs) ys = let i = total_append f xs ys in omega (arith, i)
 
-total_is : {X : Type 0} (f : X → ℕ) (xs : List X) → sum_by f xs ≡ total f xs
+pub total_is : {X : Type 0} (f : X → ℕ) (xs : List X) → sum_by f xs ≡ total f xs
 total_is f [] = refl
 total_is f (x ∷ xs) = sum_by-cons f x xs ∙ ap (λ n. f x + n) (total_is f xs)
 
@@ -166,7 +166,7 @@ instance_charge at = total element_charge at.module.elements + (1 + trees_in at.
 abbrev charges : List Instance → ℕ
 charges t = total instance_charge t
 
-abbrev tokens : List Instance → ℕ
+abbrev pub tokens : List Instance → ℕ
 tokens t = total (λ at. at.module.tokens) t
 
 -- the list grew by instances that are charged so much more than their tokens
@@ -375,10 +375,10 @@ gathered_length seen (x ∷ xs) =
 
 -- ---- accepted models
 
-all_last : (cs ds : List Check) → passes (cs ++ ds) ≡ true → passes ds ≡ true
+pub all_last : (cs ds : List Check) → passes (cs ++ ds) ≡ true → passes ds ≡ true
 all_last cs ds h = (both_true (passes cs) (passes ds) (sym (list_all-append (λ (c : Check). c.holds) cs ds) ∙ h)).1
 
-all_first : (cs ds : List Check) → passes (cs ++ ds) ≡ true → passes cs ≡ true
+pub all_first : (cs ds : List Check) → passes (cs ++ ds) ≡ true → passes cs ≡ true
 all_first cs ds h = (both_true (passes cs) (passes ds) (sym (list_all-append (λ (c : Check). c.holds) cs ds) ∙ h)).0
 
 -- an accepted model is not too heavy

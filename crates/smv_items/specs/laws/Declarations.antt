@@ -9,11 +9,12 @@ use Rattle.smv_text.specs.Tree.{Trees, no_trees, tree, PlainItem, PlainDefinitio
 use Rattle.smv_meaning.specs.Instances.{Instance, dotted, is_one_of, instances_of, modules_above}
 use Rattle.smv_meaning.specs.Names.{parent_of}
 use Rattle.smv_meaning.specs.Checks.{Check, check, passes}
-use Rattle.smv_meaning.specs.Phases.{Declared, element_declares, declared_in, declares_instance, longest_path, most_instances, item_checks, counted, declared_checks, counted_all, declaration_checks, module_checks, size_checks, later_checks, invariants_in, IsAccepted}
+use Rattle.smv_meaning.specs.Phases.{Declared, element_declares, declared_in, declares_instance, longest_path, most_instances, item_checks, counted, declared_checks, counted_all, declaration_checks, module_checks, size_checks, later_checks, invariants_in, IsAccepted, parameter_declared, item_declared, definition_declared}
 use Rattle.smv_meaning.specs.laws.Booleans.{both_true}
 use Rattle.smv_items.specs.FlatItems.{Content, Origin, with_content, actual_content, actual_items, domain_content, variable_item, definition_item, element_items, items_here}
 use Rattle.smv_items.specs.laws.Differing.{all_weaker, apart_told, Within, none_left, kept, passed, within_joined, none_within}
 use Rattle.name_maps.proofs.FreshNames.{AllDiffer, Lacks}
+use Rattle.text_core.proofs.Truths.{not_true}
 
 -- ---- declarations
 
@@ -30,10 +31,6 @@ DiffersInside at = AllDiffer (declared_names at.module)
 either_false : (a b : Bool) → (a || b) ≡ false → (a ≡ false) × (b ≡ false)
 either_false true b h = cc
 either_false false b h = (refl, h)
-
-not_true : (b : Bool) → not b ≡ true → b ≡ false
-not_true true h = cc
-not_true false h = refl
 
 pub one_of_lacks : (xs : List (List ℕ)) (x : List ℕ) → is_one_of xs x ≡ false → Lacks xs x
 one_of_lacks [] x h = tt
@@ -97,9 +94,6 @@ maybe_within : {X : Type 0} (f : ℕ → List ℕ → X) (i : ℕ) (x : List ℕ
 maybe_within f i x None = passed (f i x) [] [] none_left
 maybe_within f i x (Some c) = kept (f i x) [] [] none_left
 
-abbrev pub parameter_declared : Parameter → Declared
-parameter_declared q = record { name = q.name; place = q.place; item = None }
-
 pub actuals_within : {X : Type 0} (f : ℕ → List ℕ → X) (i j : ℕ) (qs : List Parameter) (es : Trees) → Within (map (of_origin f) (actual_items i j qs es)) (map (of_declared f i) (map parameter_declared qs))
 actuals_within f i j [] es = none_left
 actuals_within f i j (q ∷ qs) no_trees = none_within (map (of_declared f i) (map parameter_declared (q ∷ qs)))
@@ -107,17 +101,11 @@ actuals_within {X = X} f i j (q ∷ qs) (tree e es) =
     subst (λ (l : List X). Within l (map (of_declared f i) (map parameter_declared (q ∷ qs)))) (sym (map-append (of_origin f) (with_content i q.name (actual_content j e)) (actual_items i j qs es)))
     (within_joined (maybe_within f i q.name (actual_content j e)) (actuals_within f i j qs es))
 
-abbrev pub item_declared : PlainItem → Declared
-item_declared v = record { name = v.name; place = v.place; item = Some v }
-
 pub variables_within : {X : Type 0} (f : ℕ → List ℕ → X) (i : ℕ) (kind : VarKind) (items : List PlainItem) → Within (map (of_origin f) (flat_map (variable_item i kind) items)) (map (of_declared f i) (map item_declared items))
 variables_within f i kind [] = none_left
 variables_within {X = X} f i kind (v ∷ items) =
     subst (λ (l : List X). Within l (map (of_declared f i) (map item_declared (v ∷ items)))) (sym (map-append (of_origin f) (variable_item i kind v) (flat_map (variable_item i kind) items)))
     (within_joined (maybe_within f i v.name (domain_content kind v.domain)) (variables_within f i kind items))
-
-abbrev pub definition_declared : PlainDefinition → Declared
-definition_declared d = record { name = d.name; place = d.place; item = None }
 
 pub definitions_within : {X : Type 0} (f : ℕ → List ℕ → X) (i : ℕ) (ds : List PlainDefinition) → Within (map (of_origin f) (map (definition_item i) ds)) (map (of_declared f i) (map definition_declared ds))
 definitions_within f i [] = none_left

@@ -1,5 +1,5 @@
 -- Lists of items, grown from the left, and where the items of an instance end.
-use Rattle.std.proofs.Common.{◌≡◌, ℕ, ◌+◌, ◌<◌, ◌==◌, Bool, true, false, if◌then◌else◌, List, [], ◌∷◌, ◌++◌, take, drop, length, map, flat_map, Option, Some, None, refl, sym, ap, ◌∙◌, append_assoc, arith}
+use Rattle.std.proofs.Common.{◌≡◌, ℕ, ◌+◌, ◌<◌, ◌==◌, Bool, true, false, if◌then◌else◌, List, [], ◌∷◌, ◌++◌, take, drop, length, map, flat_map, Option, Some, None, refl, sym, ap, ◌∙◌, arith}
 use Rattle.std.specs.List.{AllByRecursion}
 use Rattle.std.proofs.lemmas.Bool.{eqb-true, eq-eqb}
 use Rattle.std.proofs.lemmas.List.{take-map, drop-map}
@@ -12,14 +12,6 @@ use Rattle.smv_meaning.specs.Phases.{over_instances}
 use Rattle.smv_items.specs.declared.origins.Origin.{Origin as StoredOrigin}
 use Rattle.smv_items.specs.FlatItems.{Content, Origin, with_content, actual_content, actual_items, domain_content, variable_item, definition_item, element_items, items_here}
 use Rattle.smv_items.specs.FlatOrigins.{origin_plain, own_count}
-
-pub append_none : {X : Type 0} (xs : List X) → xs ++ [] ≡ xs
-append_none [] = refl
-append_none (x ∷ xs) = ap (λ ys. x ∷ ys) (append_none xs)
-
--- what was put at the end counts as the front of what is to come
-pub joined_on : {X : Type 0} (front more all : List X) (x : X) → (front ++ x ∷ []) ++ more ≡ front ++ x ∷ more
-joined_on front more all x = append_assoc front (x ∷ []) more
 
 pub none_actual : (i j : ℕ) (qs : List Parameter) → actual_items i j qs no_trees ≡ []
 none_actual i j [] = refl

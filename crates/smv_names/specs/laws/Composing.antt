@@ -1,37 +1,12 @@
 -- Checks one after another: the first that fails refuses.
-use Rattle.std.proofs.Common.{◌≡◌, ℕ, ◌+◌, Bool, true, false, not, ◌&&◌, ◌||◌, nat_le, List, [], ◌∷◌, ◌++◌, length, Option, Some, None, is_some, if◌then◌else◌, bytes_eq, append_assoc, refl, sym, ◌∙◌, ap}
-use Rattle.text_core.specs.declared.end.End.{End}
-use Rattle.text_core.specs.declared.end.End.TheVariants.{Bad, NoMemory}
+use Rattle.std.proofs.Common.{◌≡◌, ℕ, ◌+◌, Bool, true, false, not, ◌&&◌, ◌||◌, nat_le, List, [], ◌∷◌, ◌++◌, length, Option, Some, None, is_some, if◌then◌else◌, bytes_eq, append_assoc, sym, ◌∙◌, ap}
 use Rattle.text_core.specs.declared.place.Refusal.{Refusal}
 use Rattle.smv_text.specs.Tree.{PlainModule}
 use Rattle.smv_meaning.specs.Checks.{Check, check, first_failing}
 use Rattle.smv_meaning.specs.Phases.{Declared, declares_instance, longest_path, most_instances, item_checks, counted, declared_checks}
 use Rattle.smv_meaning.specs.Instances.{dotted, is_one_of}
 use Rattle.smv_names.specs.Visits.{checks_behind_name}
-use Rattle.smv_names.specs.Outcome.{IsBad}
-
-pub stops : (xs ys : List Check) (why : Refusal) → first_failing xs ≡ Some why → first_failing (xs ++ ys) ≡ Some why
-stops [] ys why h = cc
-stops (c ∷ cs) ys why h =
-    (elim c.holds as (λ b. (if b then first_failing cs else Some c.refusal) ≡ Some why → (if b then first_failing (cs ++ ys) else Some c.refusal) ≡ Some why)
-    [ true ↦ λ k. stops cs ys why k | false ↦ λ k. k ]) h
-
-pub goes : (xs ys : List Check) → first_failing xs ≡ None → first_failing (xs ++ ys) ≡ first_failing ys
-goes [] ys h = refl
-goes (c ∷ cs) ys h =
-    (elim c.holds as (λ b. (if b then first_failing cs else Some c.refusal) ≡ None → (if b then first_failing (cs ++ ys) else Some c.refusal) ≡ first_failing ys)
-    [ true ↦ λ k. goes cs ys k | false ↦ λ k. cc ]) h
-
-pub ends : (e : End) (xs ys : List Check) → IsBad e (first_failing xs) → IsBad e (first_failing (xs ++ ys))
-ends (Bad why) xs ys h = stops xs ys why h
-ends NoMemory xs ys h = tt
-
-pub ends_behind : (e : End) (xs ys : List Check) → first_failing xs ≡ None → IsBad e (first_failing ys) → IsBad e (first_failing (xs ++ ys))
-ends_behind (Bad why) xs ys g h = goes xs ys g ∙ h
-ends_behind NoMemory xs ys g h = tt
-
-pub both_pass : (xs ys : List Check) → first_failing xs ≡ None → first_failing ys ≡ None → first_failing (xs ++ ys) ≡ None
-both_pass xs ys g h = goes xs ys g ∙ h
+use Rattle.smv_meaning.specs.laws.Composing.{goes}
 
 pub fails_behind : (xs ys : List Check) (why : Refusal) → first_failing xs ≡ None → first_failing ys ≡ Some why → first_failing (xs ++ ys) ≡ Some why
 fails_behind xs ys why g h = goes xs ys g ∙ h

@@ -1,5 +1,5 @@
 -- Checks one after another: the first that fails refuses.
-use Rattle.std.proofs.Common.{◌≡◌, true, false, List, [], ◌∷◌, ◌++◌, Option, Some, None, if◌then◌else◌, Result, Ok, Err, append_assoc, IfOk, option_map, refl, sym, ◌∙◌, ap, subst}
+use Rattle.std.proofs.Common.{◌≡◌, List, [], ◌∷◌, ◌++◌, Option, Some, None, Result, Ok, Err, append_assoc, IfOk, option_map, refl, sym, ◌∙◌, ap, subst}
 use Rattle.text_core.specs.declared.end.End.{End}
 use Rattle.text_core.specs.declared.end.End.TheVariants.{Bad, NoMemory}
 use Rattle.text_core.specs.declared.place.Place.{Place}
@@ -8,31 +8,12 @@ use Rattle.smv_text.specs.declared.tree.Path.{Path}
 use Rattle.smv_text.specs.declared.operators.Infix.{Infix}
 use Rattle.smv_text.specs.Tree.{Tree, Links, no_links, link, Branches, no_branches, branch}
 use Rattle.smv_meaning.specs.Types.{ExprType}
-use Rattle.smv_meaning.specs.Checks.{Check, first_failing, Position, Named, Typing, typing, front, linked, behind, value_types}
+use Rattle.smv_meaning.specs.Checks.{Check, first_failing, Position, Named, Typing, typing, front, linked, behind, value_types, IsBad}
 use Rattle.smv_intervals.specs.declared.types.Ty.{Ty}
 use Rattle.smv_intervals.specs.View.{seen}
-use Rattle.smv_types.specs.Outcome.{verdict, outcome, IsBad, Answers, Ends}
+use Rattle.smv_types.specs.Outcome.{verdict, outcome, Answers, Ends}
 use Rattle.smv_types.specs.Steps.{passed, behind_checks, front_step}
-
-pub stops : (xs ys : List Check) (why : Refusal) → first_failing xs ≡ Some why → first_failing (xs ++ ys) ≡ Some why
-stops [] ys why h = cc
-stops (c ∷ cs) ys why h =
-    (elim c.holds as (λ b. (if b then first_failing cs else Some c.refusal) ≡ Some why → (if b then first_failing (cs ++ ys) else Some c.refusal) ≡ Some why)
-    [ true ↦ λ k. stops cs ys why k | false ↦ λ k. k ]) h
-
-pub goes : (xs ys : List Check) → first_failing xs ≡ None → first_failing (xs ++ ys) ≡ first_failing ys
-goes [] ys h = refl
-goes (c ∷ cs) ys h =
-    (elim c.holds as (λ b. (if b then first_failing cs else Some c.refusal) ≡ None → (if b then first_failing (cs ++ ys) else Some c.refusal) ≡ first_failing ys)
-    [ true ↦ λ k. goes cs ys k | false ↦ λ k. cc ]) h
-
-pub ends : (e : End) (xs ys : List Check) → IsBad e (first_failing xs) → IsBad e (first_failing (xs ++ ys))
-ends (Bad why) xs ys h = stops xs ys why h
-ends NoMemory xs ys h = tt
-
-pub ends_behind : (e : End) (xs ys : List Check) → first_failing xs ≡ None → IsBad e (first_failing ys) → IsBad e (first_failing (xs ++ ys))
-ends_behind (Bad why) xs ys g h = goes xs ys g ∙ h
-ends_behind NoMemory xs ys g h = tt
+use Rattle.smv_meaning.specs.laws.Composing.{stops, goes, ends_behind}
 
 pub ok_parts : {X : Type 0} (o : Option Refusal) (x y : X) → verdict o x ≡ Ok y → (o ≡ None) × (x ≡ y)
 ok_parts None x y h = (refl, cc)
@@ -62,9 +43,6 @@ goes_on a x step r h k =
 pub passes_over : (r : Result (Option Ty) Refusal) (cs : List Check) (s t : Typing) → first_failing cs ≡ None → s ≡ t → Answers r s → Answers r (behind_checks cs t)
 passes_over (Ok o) cs s t g e k = ap (λ f. verdict f t.type) (goes cs t.checks g) ∙ sym (ap outcome e) ∙ k
 passes_over (Err why) cs s t g e k = ap (λ f. verdict f t.type) (goes cs t.checks g) ∙ sym (ap outcome e) ∙ k
-
-pub both_pass : (xs ys : List Check) → first_failing xs ≡ None → first_failing ys ≡ None → first_failing (xs ++ ys) ≡ None
-both_pass xs ys g h = goes xs ys g ∙ h
 
 -- what ends or answers one typing does so for each of the same outcome
 pub same_end : (e : End) (s t : Typing) → outcome s ≡ outcome t → IsBad e (first_failing s.checks) → IsBad e (first_failing t.checks)

@@ -15,14 +15,15 @@ use Rattle.smv_text.specs.Tree.{Tree, chain, choice, Links, no_links, link, Bran
 use Rattle.smv_text.specs.View.{plain, plain_link, plain_branch}
 use Rattle.smv_meaning.specs.Types.{ExprType}
 use Rattle.smv_meaning.specs.Expressions.{is_implies, are_implies, is_from_right}
-use Rattle.smv_meaning.specs.Checks.{first_failing, Position, Named, typing, single, across, linked, link_checks, link_types, branch_checks, condition_types, value_types, all_types}
+use Rattle.smv_meaning.specs.Checks.{first_failing, Position, Named, typing, single, across, linked, link_checks, link_types, branch_checks, condition_types, value_types, all_types, IsBad}
 use Rattle.smv_meaning.specs.laws.Booleans.{both_true, absurd_bool}
 use Rattle.smv_intervals.specs.declared.types.Ty.{Ty}
 use Rattle.smv_intervals.specs.View.{seen}
-use Rattle.smv_types.specs.Outcome.{verdict, outcome, IsBad, Ends}
+use Rattle.smv_types.specs.Outcome.{verdict, outcome, Ends}
 use Rattle.smv_types.specs.Steps.{passed, behind_checks, implies_step, implications_step, branches_step}
-use Rattle.smv_types.specs.laws.Composing.{ends, ends_behind, ok_parts, err_part, both_pass, same_ends, same_linked, linked_stops, over, passed_operand, values_then}
+use Rattle.smv_types.specs.laws.Composing.{ok_parts, err_part, same_ends, same_linked, linked_stops, over, passed_operand, values_then}
 use Rattle.smv_types.specs.laws.Stepping.{rest_stops}
+use Rattle.smv_meaning.specs.laws.Composing.{ends, ends_behind, both_pass}
 
 pub plain_chain : (e : Expr) (first : Box Expr Global) (links : Vec Link Global) → e.shape ≡ Chain first links
     → plain e ≡ chain e.place (plain first.value) (links_of (map plain_link links.items))

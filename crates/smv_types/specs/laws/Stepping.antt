@@ -12,12 +12,13 @@ use Rattle.smv_meaning.specs.Types.{ExprType}
 use Rattle.text_core.specs.declared.end.End.{End}
 use Rattle.text_core.specs.declared.place.Place.{Place}
 use Rattle.text_core.specs.declared.place.Refusal.{Refusal}
-use Rattle.smv_meaning.specs.Checks.{Check, first_failing, Position, Named, Typing, typing, single, linked, behind, tree_checks, tree_types, link_checks, link_types, branch_checks, condition_types, value_types}
+use Rattle.smv_meaning.specs.Checks.{Check, first_failing, Position, Named, Typing, typing, single, linked, behind, tree_checks, tree_types, link_checks, link_types, branch_checks, condition_types, value_types, IsBad}
 use Rattle.smv_intervals.specs.declared.types.Ty.{Ty}
 use Rattle.smv_intervals.specs.View.{seen}
-use Rattle.smv_types.specs.Outcome.{outcome, IsBad, Ends, is_known, trees_known, links_known, branches_known}
+use Rattle.smv_types.specs.Outcome.{outcome, Ends, is_known, trees_known, links_known, branches_known}
 use Rattle.smv_types.specs.Steps.{passed, behind_checks, front_step}
-use Rattle.smv_types.specs.laws.Composing.{ends, ends_behind, goes, ok_parts, same_end, operand_ends, front_ends, one_link}
+use Rattle.smv_types.specs.laws.Composing.{ok_parts, same_end, operand_ends, front_ends, one_link}
+use Rattle.smv_meaning.specs.laws.Composing.{goes, ends, ends_behind}
 
 pub taken {ℓ} : {A : Type ℓ} (xs : List A) (i : ℕ) (x : A) → i < length xs → x ≡ get_or xs i x → drop i xs ≡ x ∷ drop (i + 1) xs
 taken xs i x h e = drop-cons xs i x h ∙ ap (λ y. y ∷ drop (suc i) xs) (sym e) ∙ ap (λ n. x ∷ drop n xs) (sym (add-one i))

@@ -1,7 +1,7 @@
 use Rattle.std.proofs.Common.{◌≡◌, ◌+◌, length, arith, ap, ◌∙◌}
 use Rattle.btor_import.proofs.Numbering.{both_few, counts_few, counts_on, number_here, table_is, table_on}
-use Rattle.btor_import.proofs.Steps.{grown}
 use Rattle.btor_import.proofs.numbers.numbers_of.Goals as goal
+use Rattle.text_core.proofs.ListLaws.{grown}
 
 pub overflow_add-counts : goal.overflow_add-counts
 overflow_add-counts c =

@@ -1,9 +1,10 @@
 use Rattle.std.proofs.Common.{◌++◌, drop, length, sym, ap, ◌+◌, ◌∙◌}
 use Rattle.btor_tree.specs.Fits.{is_bad}
-use Rattle.btor_import.specs.Script.{lines_in, queries_from, query_of}
+use Rattle.btor_import.specs.Script.{lines_in, queries_from}
 use Rattle.btor_import.proofs.Steps.{query_off, query_on}
 use Rattle.btor_import.proofs.script.queries_of.Goals as goal
 use Rattle.btor_import.proofs.script.queries_of.Goals.{then-is_bad+in_ok-query+in_ok-push, else-is_bad}
+use Rattle.moxi_scripts.specs.Script.{query_of}
 
 pub loop-i-preserved : goal.loop-i-preserved
 loop-i-preserved c =

@@ -3,9 +3,11 @@ use Rattle.moxi_terms.specs.declared.data.TermOp.TheVariants as op
 use Rattle.moxi_terms.specs.Tree.{apply}
 use Rattle.moxi_terms.specs.View.{plain}
 use Rattle.btor_import.specs.Assembling.{number_at}
-use Rattle.btor_import.specs.Operators.{one, operand_term}
-use Rattle.btor_import.proofs.Steps.{bits_on, pushed}
+use Rattle.btor_import.specs.Operators.{operand_term}
+use Rattle.btor_import.proofs.Steps.{bits_on}
 use Rattle.btor_import.proofs.terms.bits_of.Goals as goal
+use Rattle.text_core.proofs.ListLaws.{pushed}
+use Rattle.moxi_terms.specs.Applications.{one}
 
 pub loop-i-preserved : goal.loop-i-preserved
 loop-i-preserved c =

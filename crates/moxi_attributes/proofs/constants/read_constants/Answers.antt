@@ -3,8 +3,8 @@ use Rattle.moxi_sexpr.specs.Tree.{plain_forms}
 use Rattle.moxi_scripts.specs.Collecting.{also}
 use Rattle.moxi_scripts.specs.Declarations.{are_symbols, constants_failures, symbols_in, with_constants}
 use Rattle.moxi_attributes.specs.laws.Collecting.{also_end, also_step, and_step, list_step}
-use Rattle.moxi_scripts.proofs.Forms.{forms_end, forms_step}
 use Rattle.moxi_attributes.proofs.constants.read_constants.Goals as goal
+use Rattle.moxi_sexpr.proofs.Counting.{forms_step, forms_end}
 
 pub loop-form-preserved : goal.loop-form-preserved
 loop-form-preserved c =

@@ -6,8 +6,8 @@ use Rattle.moxi_scripts.specs.Collecting.{also}
 use Rattle.moxi_scripts.specs.Labels.{labels_after, labels_failures}
 use Rattle.moxi_attributes.specs.Views.{plain_labels}
 use Rattle.moxi_attributes.specs.laws.Collecting.{also_end, also_step}
-use Rattle.moxi_scripts.proofs.Forms.{forms_end, forms_step}
 use Rattle.moxi_attributes.proofs.labels.read_labels.Goals as goal
+use Rattle.moxi_sexpr.proofs.Counting.{forms_step, forms_end}
 
 pub read_label_at-requires : goal.read_label_at-requires
 read_label_at-requires c =

@@ -1,9 +1,9 @@
 use Rattle.std.proofs.Common.{◌+◌, drop, sym, ap, ◌∙◌}
 use Rattle.moxi_sexpr.specs.Tree.{plain_forms}
 use Rattle.moxi_scripts.specs.Lists.{text_entries}
-use Rattle.moxi_scripts.proofs.Forms.{forms_end, forms_step}
 use Rattle.moxi_attributes.proofs.OrderLaws.{text_step}
 use Rattle.moxi_attributes.proofs.order.is_in_order.Goals as goal
+use Rattle.moxi_sexpr.proofs.Counting.{forms_step, forms_end}
 
 pub loop-form-preserved : goal.loop-form-preserved
 loop-form-preserved c h =

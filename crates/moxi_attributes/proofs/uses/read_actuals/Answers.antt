@@ -2,8 +2,8 @@ use Rattle.std.proofs.Common.{◌&&◌, ap, ◌∙◌}
 use Rattle.moxi_scripts.specs.Declarations.{are_symbols}
 use Rattle.moxi_scripts.specs.Uses.{actuals_failures, actuals_in}
 use Rattle.moxi_attributes.specs.laws.Collecting.{also_end, also_step, and_step, list_step}
-use Rattle.moxi_scripts.proofs.Forms.{forms_end, forms_step}
 use Rattle.moxi_attributes.proofs.uses.read_actuals.Goals as goal
+use Rattle.moxi_sexpr.proofs.Counting.{forms_step, forms_end}
 
 pub loop-form-preserved : goal.loop-form-preserved
 loop-form-preserved c =

@@ -6,8 +6,8 @@ use Rattle.moxi_scripts.specs.Attributes.{turn_after}
 use Rattle.moxi_scripts.specs.Collecting.{also}
 use Rattle.moxi_scripts.specs.Uses.{uses_failures, uses_in}
 use Rattle.moxi_attributes.specs.laws.Collecting.{also_end, also_step, list_step}
-use Rattle.moxi_scripts.proofs.Forms.{forms_end, forms_step}
 use Rattle.moxi_attributes.proofs.uses.read_uses.Goals as goal
+use Rattle.moxi_sexpr.proofs.Counting.{forms_step, forms_end}
 
 pub loop-form-init : goal.loop-form-init
 loop-form-init c = record {

@@ -6,8 +6,8 @@ use Rattle.moxi_declarations.specs.Sizes.{reading_size}
 use Rattle.moxi_declarations.specs.Views.{plain_draft}
 use Rattle.moxi_declarations.proofs.SizeLaws.{form_grows}
 use Rattle.moxi_attributes.specs.laws.Collecting.{also_end, also_step}
-use Rattle.moxi_scripts.proofs.Forms.{forms_end, forms_step}
 use Rattle.moxi_declarations.proofs.commands.read_commands.Goals as goal
+use Rattle.moxi_sexpr.proofs.Counting.{forms_step, forms_end}
 
 pub read_form-requires : goal.read_form-requires
 read_form-requires c =

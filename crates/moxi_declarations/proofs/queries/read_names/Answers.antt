@@ -4,8 +4,8 @@ use Rattle.moxi_scripts.specs.Declarations.{are_symbols}
 use Rattle.moxi_attributes.specs.Views.{plain_labels}
 use Rattle.moxi_scripts.specs.QueryReading.{names_after, symbols_failures}
 use Rattle.moxi_attributes.specs.laws.Collecting.{also_end, also_step, and_step}
-use Rattle.moxi_scripts.proofs.Forms.{forms_end, forms_step}
 use Rattle.moxi_declarations.proofs.queries.read_names.Goals as goal
+use Rattle.moxi_sexpr.proofs.Counting.{forms_step, forms_end}
 
 pub loop-form-preserved : goal.loop-form-preserved
 loop-form-preserved c =

@@ -7,8 +7,8 @@ use Rattle.moxi_scripts.specs.Collecting.{also}
 use Rattle.moxi_attributes.specs.Views.{plain_labels}
 use Rattle.moxi_scripts.specs.QueryReading.{all_queries_failures, queries_after}
 use Rattle.moxi_attributes.specs.laws.Collecting.{also_end, also_step, list_step}
-use Rattle.moxi_scripts.proofs.Forms.{forms_end, forms_step}
 use Rattle.moxi_declarations.proofs.queries.read_queries.Goals as goal
+use Rattle.moxi_sexpr.proofs.Counting.{forms_step, forms_end}
 
 pub loop-form-init : goal.loop-form-init
 loop-form-init c = record {

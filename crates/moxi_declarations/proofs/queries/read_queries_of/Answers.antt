@@ -4,8 +4,8 @@ use Rattle.moxi_scripts.specs.Collecting.{also}
 use Rattle.moxi_attributes.specs.Views.{plain_labels}
 use Rattle.moxi_scripts.specs.QueryReading.{names_with_queries, queries_failures, queries_in}
 use Rattle.moxi_attributes.specs.laws.Collecting.{also_end, also_step, list_step}
-use Rattle.moxi_scripts.proofs.Forms.{forms_end, forms_step}
 use Rattle.moxi_declarations.proofs.queries.read_queries_of.Goals as goal
+use Rattle.moxi_sexpr.proofs.Counting.{forms_step, forms_end}
 
 pub loop-form-preserved : goal.loop-form-preserved
 loop-form-preserved c =

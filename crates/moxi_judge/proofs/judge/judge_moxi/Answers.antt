@@ -9,11 +9,12 @@ use Rattle.moxi_scripts.specs.Asking.{no_query, query_at}
 use Rattle.moxi_flat.specs.FlatMeeting.{MeetsFlat}
 use Rattle.moxi_flat.specs.FlatSystem.{flat_of}
 use Rattle.moxi_judge.specs.FlatTests.{IsQueryOf, judged_by_parts}
-use Rattle.moxi_judge.specs.Judging.{IsStatedTrace, trace_of}
+use Rattle.moxi_judge.specs.Judging.{IsStatedTrace}
 use Rattle.moxi_judge.proofs.Elements.{all_at, found_at}
 use Rattle.moxi_judge.proofs.Held.{can_judge}
 use Rattle.moxi_judge.proofs.Verdicts.{if_ok_more, parts_give_verdict, stated_suit, verdict_is, yes_is_met}
 use Rattle.moxi_judge.proofs.judge.judge_moxi.Goals as goal
+use Rattle.moxi_scripts.specs.Behaviour.{trace_of}
 
 pub judge_steps-requires-clause-can : goal.judge_steps-requires-clause-can
 judge_steps-requires-clause-can c = can_judge c.args.system.now c.is_sorted.ensures

@@ -1,9 +1,9 @@
 use Rattle.std.proofs.Common.{◌≡◌, ℕ, ◌+◌, ◌-◌, length, subst, arith}
 use Rattle.moxi_scripts.specs.Meeting.{is_reached_before}
 use Rattle.moxi_judge.specs.FlatTests.{free_script, judged_by_parts}
-use Rattle.moxi_judge.specs.Judging.{trace_of}
 use Rattle.moxi_judge.proofs.Steps.{ends_here, fails_here, goes_on, marks_go_on}
 use Rattle.moxi_judge.proofs.judge.judge_steps.Goals as goal
+use Rattle.moxi_scripts.specs.Behaviour.{trace_of}
 
 pub returns-in-Some : goal.returns-in-Some
 returns-in-Some c =

@@ -1,8 +1,8 @@
 use Rattle.std.proofs.Common.{◌≡◌, ℕ, ◌+◌, ◌-◌, length}
 use Rattle.moxi_scripts.specs.Meeting.{is_reached_before}
 use Rattle.moxi_judge.specs.FlatTests.{Remember, free_script, judged_by_parts}
-use Rattle.moxi_judge.specs.Judging.{trace_of}
 use Rattle.moxi_judge.proofs.judge.judge_steps.Given as goal
+use Rattle.moxi_scripts.specs.Behaviour.{trace_of}
 
 abbrev pub invariant-loop-step : goal.invariant-loop-step
 invariant-loop-step l =

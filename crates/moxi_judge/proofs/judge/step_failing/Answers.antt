@@ -1,9 +1,9 @@
 use Rattle.std.proofs.Common.{◌≡◌, ◌-◌, IfOk, length, subst}
 use Rattle.moxi_scripts.specs.Meeting.{is_reached_before}
 use Rattle.moxi_judge.specs.FlatTests.{free_script}
-use Rattle.moxi_judge.specs.Judging.{trace_of}
 use Rattle.moxi_judge.proofs.Steps.{behind_parts}
 use Rattle.moxi_judge.proofs.judge.step_failing.Goals as goal
+use Rattle.moxi_scripts.specs.Behaviour.{trace_of}
 
 pub returns : goal.returns
 returns c =

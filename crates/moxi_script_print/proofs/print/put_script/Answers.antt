@@ -1,11 +1,11 @@
 use Rattle.std.proofs.Common.{◌++◌, ap, ◌∙◌, map}
-use Rattle.moxi_sexpr.specs.Printing.{bytes_behind}
 use Rattle.moxi_term_print.specs.Shown.{lines_text, text_of}
 use Rattle.moxi_script_print.specs.Printing.{shown_logic, shown_enumerations, shown_sorts, shown_functions, shown_systems, shown_check, system_names}
 use Rattle.moxi_scripts.specs.ScriptView.{plain_script}
 use Rattle.moxi_script_print.proofs.Pieces.{script_end}
 use Rattle.moxi_script_print.proofs.print.put_script.Goals as goal
 use Rattle.moxi_term_print.proofs.TextLaws.{ok_same, onto}
+use Rattle.text_core.specs.Bytes.{bytes_behind}
 
 pub returns : goal.returns
 returns c =

@@ -1,6 +1,5 @@
 use Rattle.std.proofs.Common.{ℕ, List, [], ◌∷◌, ◌++◌, ap, ◌∙◌, map}
 use Rattle.std.specs.Prelude.{codes}
-use Rattle.moxi_sexpr.specs.Printing.{bytes_behind}
 use Rattle.moxi_term_print.specs.Shown.{parts_text, text_of}
 use Rattle.moxi_term_print.specs.Terms.{name_at, symbol, variable_names}
 use Rattle.moxi_script_print.specs.Printing.{shown_conditions, shown_lists}
@@ -9,6 +8,7 @@ use Rattle.moxi_script_print.proofs.Pieces.{check_end}
 use Rattle.moxi_script_print.proofs.print_checks.put_check.Goals as goal
 use Rattle.moxi_scripts.specs.Valid.{check_variables}
 use Rattle.moxi_term_print.proofs.TextLaws.{ok_same, onto}
+use Rattle.text_core.specs.Bytes.{bytes_behind}
 
 pub returns : goal.returns
 returns c =

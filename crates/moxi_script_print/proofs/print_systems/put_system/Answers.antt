@@ -1,6 +1,5 @@
 use Rattle.std.proofs.Common.{ℕ, List, [], ◌∷◌, ◌++◌, ap, ◌∙◌, map}
 use Rattle.std.specs.Prelude.{codes}
-use Rattle.moxi_sexpr.specs.Printing.{bytes_behind}
 use Rattle.moxi_terms.specs.View.{plain}
 use Rattle.moxi_term_print.specs.Shown.{parts_text, text_of}
 use Rattle.moxi_term_print.specs.Terms.{symbol, variable_names}
@@ -9,6 +8,7 @@ use Rattle.moxi_scripts.specs.Script.{plain_system, variables_in}
 use Rattle.moxi_script_print.proofs.Pieces.{system_end}
 use Rattle.moxi_script_print.proofs.print_systems.put_system.Goals as goal
 use Rattle.moxi_term_print.proofs.TextLaws.{ok_same, onto}
+use Rattle.text_core.specs.Bytes.{bytes_behind}
 
 pub returns : goal.returns
 returns c =

@@ -8,9 +8,9 @@ use Rattle.moxi_sexpr.specs.Lexing.{Mark}
 use Rattle.moxi_sexpr.specs.Bytes.{is_comment_byte}
 use Rattle.moxi_sexpr.specs.Reading.{run_length, token_of}
 use Rattle.moxi_sexpr.specs.Machine.{open_lists}
-use Rattle.moxi_sexpr.proofs.Laws.{reaches_along}
 use Rattle.moxi_sexpr.proofs.Leading.{Leads, leads_new, lists_long, end_done, end_open, blank_leads, comment_leads, token_refused, token_leads, went, refused_err, token_splits, token_shorter}
 use Rattle.moxi_sexpr.proofs.read.forms_of.Goals as goal
+use Rattle.text_core.proofs.PlaceLaws.{reaches_along}
 
 pub tokens-init : goal.tokens-init
 tokens-init c = record {

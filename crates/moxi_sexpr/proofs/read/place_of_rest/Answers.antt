@@ -1,8 +1,8 @@
 use Rattle.std.proofs.Common.{false, ◌≡◌, ◌||◌, sym, ◌∙◌}
 use Rattle.std.proofs.lemmas.Bool.{or_parts}
-use Rattle.moxi_sexpr.specs.Bytes.{heads}
 use Rattle.moxi_sexpr.proofs.Lines.{token_along}
 use Rattle.moxi_sexpr.proofs.read.place_of_rest.Goals as goal
+use Rattle.text_core.specs.Bytes.{heads}
 
 pub returns-else-starts_quoted : goal.returns-else-starts_quoted
 returns-else-starts_quoted c =

@@ -1,12 +1,13 @@
 use Rattle.std.proofs.Common.{◌<◌, ℕ, false, List, [], ◌∷◌, ◌++◌, map, length, ap, sym, ◌∙◌, append_assoc, arith}
 use Rattle.moxi_sexpr.specs.declared.form.Atom.TheVariants.{Symbol}
-use Rattle.moxi_sexpr.specs.Printing.{bytes_behind, printed_atom}
+use Rattle.moxi_sexpr.specs.Printing.{printed_atom}
 use Rattle.moxi_terms.specs.Tree.{trees_of}
 use Rattle.moxi_terms.specs.View.{plain}
 use Rattle.moxi_term_print.specs.Shown.{parts_text}
 use Rattle.moxi_term_print.specs.Terms.{shown_terms}
 use Rattle.moxi_term_print.proofs.TextLaws.{ok_same, onto, call_text}
 use Rattle.moxi_term_print.proofs.terms.+put.Goals as goal
+use Rattle.text_core.specs.Bytes.{bytes_behind}
 
 pub put_call-returns-clause-text : goal.put_call-returns-clause-text
 put_call-returns-clause-text t c =

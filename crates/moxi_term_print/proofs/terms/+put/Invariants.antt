@@ -1,10 +1,10 @@
 use Rattle.std.proofs.Common.{◌≡◌, ◌++◌, ◌∷◌, [], map, drop}
-use Rattle.moxi_sexpr.specs.Printing.{bytes_behind}
 use Rattle.moxi_terms.specs.Tree.{trees_of}
 use Rattle.moxi_terms.specs.View.{plain}
 use Rattle.moxi_term_print.specs.Shown.{parts_text}
 use Rattle.moxi_term_print.specs.Terms.{shown_bindings, shown_terms}
 use Rattle.moxi_term_print.proofs.terms.+put.Given as goal
+use Rattle.text_core.specs.Bytes.{bytes_behind}
 
 abbrev pub invariant-put_trees-loop-term : goal.invariant-put_trees-loop-term
 invariant-put_trees-loop-term l = record {

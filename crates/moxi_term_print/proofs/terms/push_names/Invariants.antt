@@ -1,7 +1,7 @@
 use Rattle.std.proofs.Common.{◌≡◌, ◌≤◌, ◌++◌, map, take, length}
 use Rattle.std.specs.Slice.Iter.{iter_rest}
-use Rattle.moxi_sexpr.specs.Printing.{bytes_behind}
 use Rattle.moxi_term_print.proofs.terms.push_names.Given as goal
+use Rattle.text_core.specs.Bytes.{bytes_behind}
 
 abbrev pub invariant-loop-name : goal.invariant-loop-name
 invariant-loop-name l = record {

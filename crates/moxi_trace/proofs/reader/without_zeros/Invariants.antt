@@ -1,6 +1,6 @@
 use Rattle.std.proofs.Common.{◌≡◌, length}
-use Rattle.moxi_trace.specs.Reading.{without_zeros}
 use Rattle.moxi_trace.proofs.reader.without_zeros.Given as goal
+use Rattle.text_core.specs.Bytes.{without_zeros}
 
 abbrev pub invariant-loop-b : goal.invariant-loop-b
 invariant-loop-b l = without_zeros l.rest ≡ without_zeros l.digits

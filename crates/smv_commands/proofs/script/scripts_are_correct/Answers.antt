@@ -5,14 +5,13 @@ use Rattle.text_core.specs.Places.{start, after}
 use Rattle.smv_meaning.specs.Values.{given}
 use Rattle.smv_flat.specs.FlatForms.{flat_smv}
 use Rattle.smv_width.specs.FlatWidth.{width_of}
-use Rattle.smv_script.specs.Script.{query_of}
 use Rattle.moxi_scripts.specs.Behaviour.{Trace}
 use Rattle.moxi_scripts.specs.Meeting.{MeetsQuery}
 use Rattle.moxi_scripts.specs.Valid.{IsValid}
 use Rattle.moxi_script_print.specs.NamesOfScripts.{HasSpellableNames}
 use Rattle.smv_script_laws.specs.RunLaws.{HasRun, decoded_run}
 use Rattle.moxi_term_print.specs.Shown.{SpellsShown, lines_text, shown_depths}
-use Rattle.moxi_scripts.specs.Script.{PlainScript}
+use Rattle.moxi_scripts.specs.Script.{PlainScript, query_of}
 use Rattle.moxi_scripts.specs.Spelling.{SpellsScript}
 use Rattle.moxi_script_print.specs.Printing.{shown_script}
 use Rattle.moxi_script_print.specs.Again.{ReadsAs, with_place}

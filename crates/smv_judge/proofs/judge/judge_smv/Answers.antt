@@ -2,10 +2,9 @@ use Rattle.std.proofs.Common.{map, subst}
 use Rattle.text_core.specs.declared.end.End.{End}
 use Rattle.smv_text.specs.View.{plain_source}
 use Rattle.smv_meaning.specs.Values.{given}
-use Rattle.smv_meaning.specs.Checks.{first_failing}
+use Rattle.smv_meaning.specs.Checks.{first_failing, IsBad}
 use Rattle.smv_meaning.specs.Phases.{checks_of}
 use Rattle.smv_meaning.specs.Runs.{judged_smv}
-use Rattle.smv_names.specs.Outcome.{IsBad}
 use Rattle.smv_judge.proofs.StepLaws.{none_refused, told_of}
 use Rattle.smv_judge.proofs.judge.judge_smv.Goals as goal
 

@@ -5,8 +5,9 @@ use Rattle.std.proofs.lemmas.Result.{err_from_is_err_and}
 use Rattle.text_core.specs.Places.{after}
 use Rattle.smv_text.specs.Lexing.{LexesFrom, Lexes, Refuses, last, more, later, finished, go, opened}
 use Rattle.smv_lex.specs.Reading.{behind}
-use Rattle.smv_lex.proofs.Laws.{gap_end, after-append, next_from, refused_from, opened_more, reaches_along}
+use Rattle.smv_lex.proofs.Laws.{gap_end, after-append, next_from, refused_from, opened_more}
 use Rattle.smv_lex.proofs.lexing.tokens_of.Goals as goal
+use Rattle.text_core.proofs.PlaceLaws.{reaches_along}
 
 pub returns-then-is_empty-clause-lexed : goal.returns-then-is_empty-clause-lexed
 returns-then-is_empty-clause-lexed c =

@@ -1,8 +1,8 @@
 use Rattle.std.proofs.Common.{◌≡◌, [], ◌∷◌, rules, sym, subst, ◌∙◌}
 use Rattle.text_core.specs.declared.place.Place.{Place}
-use Rattle.smv_lex.proofs.Laws.{reaches_along}
 use Rattle.smv_lex.proofs.Gaps.{AreBehind, gap_off, gap_on, gap_over}
 use Rattle.smv_lex.proofs.scan.skip_gap.Goals as goal
+use Rattle.text_core.proofs.PlaceLaws.{reaches_along}
 
 pub returns-in_default-gap_step-clause-place : goal.returns-in_default-gap_step-clause-place
 returns-in_default-gap_step-clause-place c =

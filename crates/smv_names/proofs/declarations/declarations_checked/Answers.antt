@@ -1,8 +1,8 @@
 use Rattle.std.proofs.Common.{sym, subst, ◌∙◌}
 use Rattle.smv_text.specs.View.{plain_module}
-use Rattle.smv_names.specs.Outcome.{IsBad}
 use Rattle.smv_names.proofs.Walks.{walked}
 use Rattle.smv_names.proofs.declarations.declarations_checked.Goals as goal
+use Rattle.smv_meaning.specs.Checks.{IsBad}
 
 pub returns-in-Ok : goal.returns-in-Ok
 returns-in-Ok c =

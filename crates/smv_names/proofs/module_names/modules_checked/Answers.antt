@@ -3,8 +3,8 @@ use Rattle.smv_text.specs.View.{plain_module}
 use Rattle.smv_meaning.specs.Instances.{module_named, main_name}
 use Rattle.smv_meaning.specs.Checks.{first_failing}
 use Rattle.smv_meaning.specs.Phases.{name_checks, main_check}
-use Rattle.smv_names.specs.laws.Composing.{goes}
 use Rattle.smv_names.proofs.module_names.modules_checked.Goals as goal
+use Rattle.smv_meaning.specs.laws.Composing.{goes}
 
 pub returns : goal.returns
 returns c =

@@ -4,8 +4,7 @@ use Rattle.std.proofs.lemmas.List.{take-append-le}
 use Rattle.std.proofs.Math.Seq.{take-length}
 use Rattle.smv_text.specs.View.{plain_module}
 use Rattle.smv_meaning.specs.Phases.{declared_in}
-use Rattle.smv_meaning.specs.Checks.{first_failing}
-use Rattle.smv_names.specs.Outcome.{IsBad}
+use Rattle.smv_meaning.specs.Checks.{first_failing, IsBad}
 use Rattle.smv_names.specs.View.{declared_plain, names_above}
 use Rattle.smv_names.specs.Visits.{item_visits, declared_visits, visits, visit_checks, visit_count}
 use Rattle.smv_names.proofs.Above.{one_above}

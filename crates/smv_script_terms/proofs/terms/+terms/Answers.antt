@@ -12,10 +12,11 @@ use Rattle.smv_script_terms.specs.Questions.{answered, codes_of}
 use Rattle.smv_script_terms.specs.Operands.{answers, case_plain, implied_parts, link_answers, operand_plain}
 use Rattle.smv_script_terms.proofs.Depths.{link_low, branch_low, tree_low, firsts_low}
 use Rattle.smv_script_terms.proofs.InRange.{link_in_range, branch_in_range, tree_in_range, firsts_in_range, fronts_from, front_in_range}
-use Rattle.smv_script_terms.proofs.Steps.{step_on, steps_end, pushed}
+use Rattle.smv_script_terms.proofs.Steps.{step_on, steps_end}
 use Rattle.smv_script_terms.proofs.Translated.{ok_same, back, values_are, union_read, implied_read, joined_read, left_read}
 use Rattle.smv_script_terms.proofs.Termed.{choice_made, prefix_made, select_made, call_made, set_made, link_list, link_elements, link_alone, operand_list, operand_elements, operand_alone, case_list, case_elements, case_alone, part_list, folded_on, taken_cases}
 use Rattle.smv_script_terms.proofs.terms.+terms.Goals as goal
+use Rattle.text_core.proofs.ListLaws.{pushed}
 
 -- ---- parts
 

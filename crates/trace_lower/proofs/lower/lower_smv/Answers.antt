@@ -1,9 +1,8 @@
 use Rattle.std.proofs.Common.{Result, Ok, Err, IfOk, subst}
 use Rattle.text_core.specs.declared.end.End.{End}
 use Rattle.smv_text.specs.View.{plain_source}
-use Rattle.smv_meaning.specs.Checks.{first_failing}
+use Rattle.smv_meaning.specs.Checks.{first_failing, IsBad}
 use Rattle.smv_meaning.specs.Phases.{checks_of}
-use Rattle.smv_names.specs.Outcome.{IsBad}
 use Rattle.smv_judge.proofs.StepLaws.{none_refused}
 use Rattle.witness_lift.specs.Breaking.{IsFormOf}
 use Rattle.trace_lower.proofs.lower.lower_smv.Goals as goal

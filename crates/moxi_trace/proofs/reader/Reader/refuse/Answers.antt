@@ -1,9 +1,8 @@
 use Rattle.std.proofs.Common.{Err, refl, sym, subst}
 use Rattle.text_core.specs.declared.end.End.{End}
-use Rattle.moxi_trace.specs.Reading.{refused}
-use Rattle.moxi_trace.specs.Answer.{Leaves}
 use Rattle.moxi_trace.proofs.Steps.{stray_leaves, stray_refuses}
 use Rattle.moxi_trace.proofs.reader.Reader.refuse.Goals as goal
+use Rattle.text_core.specs.Answers.{refused, Leaves}
 
 pub returns-in-Ok : goal.returns-in-Ok
 returns-in-Ok c =

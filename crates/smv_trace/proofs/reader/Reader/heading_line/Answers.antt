@@ -2,9 +2,9 @@ use Rattle.std.proofs.Common.{List, ℕ, subst}
 use Rattle.smv_trace.specs.Runs.{Declarations}
 use Rattle.smv_trace.specs.Reading.{ended, begun}
 use Rattle.smv_trace.specs.Numbering.{reading_of}
-use Rattle.smv_trace.specs.Answer.{Leaves}
-use Rattle.smv_trace.proofs.Steps.{first_refuses, then_leaves}
 use Rattle.smv_trace.proofs.reader.Reader.heading_line.Goals as goal
+use Rattle.text_core.specs.Answers.{Leaves}
+use Rattle.text_core.proofs.AnswerLaws.{first_refuses, then_leaves}
 
 pub returns-in-Ok-clause-step : goal.returns-in-Ok-clause-step
 returns-in-Ok-clause-step c =

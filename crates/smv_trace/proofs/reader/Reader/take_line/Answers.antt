@@ -3,9 +3,9 @@ use Rattle.std.specs.Prelude.{codes}
 use Rattle.text_core.specs.declared.place.Refusal.{Refusal}
 use Rattle.smv_trace.specs.Reading.{Reading}
 use Rattle.smv_trace.specs.Numbering.{reading_of}
-use Rattle.smv_trace.specs.Answer.{Leaves}
 use Rattle.smv_trace.proofs.Steps.{passed_step, marked_step, other_line}
 use Rattle.smv_trace.proofs.reader.Reader.take_line.Goals as goal
+use Rattle.text_core.specs.Answers.{Leaves}
 
 pub returns-then-is_passed-clause-step : goal.returns-then-is_passed-clause-step
 returns-then-is_passed-clause-step c = passed_step c.args.self.now.table c.args.at c.args.line.now (reading_of c.args.self.now) (sym c.is_passed.ensures ∙ c.if-is_passed.true)
