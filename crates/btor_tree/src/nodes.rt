@@ -1,10 +1,13 @@
 // A list of lines, each of which fits the ones before it.
-ghost use Rattle.std.specs.Prelude.{◌≡◌, ◌<◌, ◌≤◌, [], ◌∷◌, ◌++◌, length, Some, slice_get, OnOk, OnErr, if◌then◌else◌};
+ghost use Rattle.std.specs.Prelude.{◌≡◌, ◌<◌, ◌≤◌, ◌^◌, [], ◌∷◌, ◌++◌, length, Some, slice_get, OnOk, OnErr, if◌then◌else◌};
+ghost use Rattle.std.specs.Iterator.Runs.{EveryRun, ItemsMapTo};
+ghost use Rattle.std.specs.Slice.Iter.{iter_rest, iter_steps};
 ghost use Rattle.btor_tree.specs.Fits.{Fits, IsWellFormed, width_at, count_of, is_input, is_state, is_bad};
 
 use crate::lines::{Line, LineOp, sort_width};
 use std::alloc::Global;
 use std::marker::Model;
+use std::slice::Iter;
 use text_core::NoMemory;
 
 /// A well-formed list of lines, in order of their ids.
@@ -108,6 +111,13 @@ impl Nodes {
         &self.items[i]
     }
 
+    /// Returns the lines in order.
+    pub fn as_slice(&self) -> &[Line]
+        ensures { result.now ≡ self.now }
+    {
+        self.items.as_slice()
+    }
+
     /// Returns the number of input lines.
     pub fn inputs(&self) -> u32
         ensures { result ≡ count_of is_input self.now }
@@ -138,6 +148,20 @@ impl Nodes {
     {
         let sort = self.items[line as usize].sort;
         sort_width(&self.items[sort as usize].op)
+    }
+}
+
+impl<'a> IntoIterator for &'a Nodes {
+    type Item = &'a Line;
+
+    type IntoIter = Iter<'a, Line>;
+
+    ghost use Rattle.btor_tree.specs.declared.lines.Line.{Line};
+
+    ghost into_iter_gives = { λ l it. (iter_rest it ≡ l.now) × (length (iter_rest it) < 2 ^ 64) × EveryRun (iter_steps {A = Line}) (λ p. ItemsMapTo p (λ x. x.now) (iter_rest p.from)) };
+
+    fn into_iter(self) -> Iter<'a, Line> {
+        self.items.as_slice().iter()
     }
 }
 
