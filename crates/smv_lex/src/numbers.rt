@@ -47,16 +47,12 @@ fn width_length(text: &[u8]) -> usize
     ensures value { result ≡ front_length is_unmarked text.now }
     ensures within { result ≤ length text.now }
 {
-    let mut rest = text;
-    let mut count = 0;
-    while let Some((b, more)) = rest.split_first() {
+    for (i, b) in text.iter().enumerate() {
         if *b == b'_' {
-            return count;
+            return i;
         }
-        count += 1;
-        rest = more;
     }
-    count
+    text.len()
 }
 
 /// The digits without the `_` between them.

@@ -113,14 +113,10 @@ pub fn run_length(text: &[u8]) -> usize
     ensures value { result ≡ front_length in_run text.now }
     ensures within { result ≤ length text.now }
 {
-    let mut rest = text;
-    let mut count = 0;
-    while let Some((b, more)) = rest.split_first() {
+    for (i, b) in text.iter().enumerate() {
         if !in_run(*b) {
-            return count;
+            return i;
         }
-        count += 1;
-        rest = more;
     }
-    count
+    text.len()
 }

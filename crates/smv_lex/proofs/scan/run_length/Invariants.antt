@@ -1,13 +1,7 @@
-use Rattle.std.proofs.Common.{◌≡◌, ◌+◌, length}
+use Rattle.std.proofs.Common.{◌≡◌, ◌+◌, drop}
 use Rattle.smv_text.specs.Bytes.{front_length}
 use Rattle.smv_text.specs.Words.{in_run}
 use Rattle.smv_lex.proofs.scan.run_length.Given as goal
 
-abbrev pub invariant-loop-b : goal.invariant-loop-b
-invariant-loop-b l = record {
-  rest_is : l.count + front_length in_run l.rest ≡ front_length in_run l.text;
-  all : l.count + length l.rest ≡ length l.text;
-}
-
-abbrev pub decreases-loop-b : goal.decreases-loop-b
-decreases-loop-b l = length l.rest
+abbrev pub invariant-loop-i : goal.invariant-loop-i
+invariant-loop-i l = l.i + front_length in_run (drop l.i l.text) ≡ front_length in_run l.text
