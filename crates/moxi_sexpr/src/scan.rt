@@ -54,7 +54,7 @@ fn scan_simple(how: Spelling, text: &[u8]) -> Option<(Spelling, &[u8], &[u8])>
 }
 
 /// Returns whether the text begins with a prime, and the text after it.
-fn split_prime(text: &[u8]) -> (bool, &[u8])
+pub fn split_prime(text: &[u8]) -> (bool, &[u8])
     ensures primed { result.0 ≡ has_prime text.now }
     ensures rest { result.1.now ≡ past_prime text.now }
 {
@@ -106,7 +106,7 @@ fn scan_barred(text: &[u8]) -> Option<(Spelling, &[u8], &[u8])>
 }
 
 /// Returns the number of bytes before the closing quote of a string. The text starts after the opening quote.
-fn quote_length(text: &[u8]) -> Option<usize>
+pub fn quote_length(text: &[u8]) -> Option<usize>
     ensures value { result ≡ quote_length 0 false text.now }
     ensures within { IfSome result (λ n. n < length text.now) }
 {

@@ -4,18 +4,18 @@ use Rattle.std.specs.List.{list_all}
 use Rattle.std.proofs.lemmas.List.{append_assoc, append-nil}
 use Rattle.std.proofs.lemmas.Bool.{and_parts, cond-true, cond-false}
 use Rattle.text_core.specs.Bytes.{is_digit}
-use Rattle.moxi_sexpr.specs.Bytes.{Stops, is_symbol_byte, is_binary_digit, is_barred_byte}
+use Rattle.moxi_sexpr.specs.Bytes.{Stops, belongs, is_symbol_byte, is_binary_digit, is_barred_byte}
 use Rattle.moxi_sexpr.specs.Atoms.{is_run, is_simple, starts_simple, spelled}
 use Rattle.moxi_sexpr.specs.declared.scan.Spelling.TheVariants as how
 use Rattle.moxi_sexpr.specs.Printing.{is_among, reserved_words}
 use Rattle.moxi_sexpr.specs.Reading.{run_length}
 use Rattle.moxi_sexpr.proofs.Runs.{other_byte, run_take, run_drop, run_some, run_all, simple_all, simple_starts}
-use Rattle.moxi_trace.specs.declared.tokens.Class.{Class}
-use Rattle.moxi_trace.specs.declared.tokens.Class.TheVariants as class
+use Rattle.moxi_sexpr.specs.declared.bytes.ByteSet.{ByteSet}
+use Rattle.moxi_sexpr.specs.declared.bytes.ByteSet.TheVariants as set
 use Rattle.moxi_trace.specs.declared.tokens.Shape.{Shape}
 use Rattle.moxi_trace.specs.declared.tokens.Shape.TheVariants as shape
 use Rattle.moxi_trace.specs.Texts.{symbol_text}
-use Rattle.moxi_trace.specs.Tokens.{belongs, run_of, symbol_with, bare_of, closed_by_bar, barred_of, token_of}
+use Rattle.moxi_trace.specs.Tokens.{run_of, symbol_with, bare_of, closed_by_bar, barred_of, token_of}
 
 -- no name and no number goes on with this byte
 pub record Parts (c : ℕ) : Type 0 where
@@ -38,7 +38,7 @@ pub closing_token : (rest : List ℕ) → token_of (41 ∷ rest) ≡ Some (shape
 unfolding token_of
 closing_token rest = refl
 
-run_is : (s : Shape) (k : Class) (raw rest : List ℕ) → is_run (belongs k) raw ≡ true → Stops (belongs k) rest → run_of s k (raw ++ rest) ≡ Some (s, raw, rest)
+run_is : (s : Shape) (k : ByteSet) (raw rest : List ℕ) → is_run (belongs k) raw ≡ true → Stops (belongs k) rest → run_of s k (raw ++ rest) ≡ Some (s, raw, rest)
 run_is s k raw rest e f =
     let p = belongs k in
     let a = run_all p raw e in
@@ -57,7 +57,7 @@ symbol_first b bs e d =
     let i : eqb b 35 ≡ false = other_byte P b 35 e refl in
     cond-false _ _ _ a ∙ cond-false _ _ _ c ∙ cond-false _ _ _ f ∙ cond-false _ _ _ g ∙ cond-false _ _ _ h ∙ cond-false _ _ _ i ∙ cond-false _ _ _ d
 
-digit_first : (b : ℕ) (bs : List ℕ) → is_digit b ≡ true → token_of (b ∷ bs) ≡ run_of shape.Numeral class.Decimal (b ∷ bs)
+digit_first : (b : ℕ) (bs : List ℕ) → is_digit b ≡ true → token_of (b ∷ bs) ≡ run_of shape.Numeral set.Decimal (b ∷ bs)
 unfolding token_of
 digit_first b bs e =
     let P = is_digit in
@@ -78,7 +78,7 @@ symbol_is name c more p = rw p.prime refl
 
 bare_is : (name : List ℕ) (c : ℕ) (more : List ℕ) → is_simple name ≡ true → Parts c → bare_of (name ++ c ∷ more) ≡ Some (shape.Symbol, name, c ∷ more)
 bare_is name c more e p =
-    let P = belongs class.Symbol in
+    let P = belongs set.Symbol in
     let all = simple_all name e in
     let text = name ++ c ∷ more in
     cond-true _ _ _ (simple_starts name (c ∷ more) e)
@@ -94,7 +94,7 @@ bare_token (b ∷ bs) c more e p =
 
 barred_is : (name : List ℕ) (c : ℕ) (more : List ℕ) → list_all is_barred_byte name ≡ true → Parts c → barred_of (name ++ 124 ∷ c ∷ more) ≡ Some (shape.Symbol, name, c ∷ more)
 barred_is name c more e p =
-    let P = belongs class.Barred in
+    let P = belongs set.Barred in
     let text = name ++ 124 ∷ c ∷ more in
     ap (λ x. closed_by_bar x (drop (run_length P text) text)) (run_take P name (124 ∷ c ∷ more) e refl)
     ∙ ap (closed_by_bar name) (run_drop P name (124 ∷ c ∷ more) e refl) ∙ symbol_is name c more p
@@ -117,9 +117,9 @@ symbol_token name c more e p = go (is_simple name && not (is_among name reserved
 pub numeral_token : (digits : List ℕ) (c : ℕ) (more : List ℕ) → is_run is_digit digits ≡ true → Parts c → token_of (digits ++ c ∷ more) ≡ Some (shape.Numeral, digits, c ∷ more)
 numeral_token [] c more e p = absurd (let g : false ≡ true = e in cc)
 numeral_token (b ∷ bs) c more e p =
-    digit_first b (bs ++ c ∷ more) (and_parts (is_digit b) (list_all is_digit bs) e).0 ∙ run_is shape.Numeral class.Decimal (b ∷ bs) (c ∷ more) e p.digit
+    digit_first b (bs ++ c ∷ more) (and_parts (is_digit b) (list_all is_digit bs) e).0 ∙ run_is shape.Numeral set.Decimal (b ∷ bs) (c ∷ more) e p.digit
 
 -- digits of a word
 pub binary_token : (digits : List ℕ) (c : ℕ) (more : List ℕ) → is_run is_binary_digit digits ≡ true → Parts c → token_of (35 ∷ (98 ∷ (digits ++ c ∷ more))) ≡ Some (shape.Binary, digits, c ∷ more)
 unfolding token_of
-binary_token digits c more e p = run_is shape.Binary class.Binary digits (c ∷ more) e p.binary
+binary_token digits c more e p = run_is shape.Binary set.Binary digits (c ∷ more) e p.binary

@@ -1,31 +1,24 @@
 -- The tokens of a response: those of a MoXI script (SMT-LIB 2.6, section 3.1), but for comments, which a response doesn't have.
 use Rattle.std.specs.Prelude.{◌==◌, ℕ, Bool, true, false, if◌then◌else◌, Option, Some, None, List, [], ◌∷◌, take, drop}
 use Rattle.text_core.specs.Bytes.{is_digit}
-use Rattle.moxi_sexpr.specs.Bytes.{is_symbol_byte, is_binary_digit, is_hex_digit, is_barred_byte}
+use Rattle.moxi_sexpr.specs.declared.bytes.ByteSet.{ByteSet}
+use Rattle.moxi_sexpr.specs.declared.bytes.ByteSet.TheVariants as set
+use Rattle.moxi_sexpr.specs.Bytes.{belongs}
 use Rattle.moxi_sexpr.specs.Atoms.{starts_simple}
 use Rattle.moxi_sexpr.specs.Reading.{run_length, has_prime, past_prime, quote_length}
-use Rattle.moxi_trace.specs.declared.tokens.Class.{Class}
-use Rattle.moxi_trace.specs.declared.tokens.Class.TheVariants as class
 use Rattle.moxi_trace.specs.declared.tokens.Shape.{Shape}
 use Rattle.moxi_trace.specs.declared.tokens.Shape.TheVariants as shape
-
-abbrev pub belongs : Class → ℕ → Bool
-belongs class.Symbol b = is_symbol_byte b
-belongs class.Decimal b = is_digit b
-belongs class.Binary b = is_binary_digit b
-belongs class.Hexadecimal b = is_hex_digit b
-belongs class.Barred b = is_barred_byte b
 
 -- a token's shape, its bytes without the signs around them, and what is behind it
 abbrev pub Scan : Type 0
 Scan = Option (Shape × List ℕ × List ℕ)
 
--- one or more bytes of the class
-abbrev pub run_of : Shape → Class → List ℕ → Scan
+-- one or more bytes of the set
+abbrev pub run_of : Shape → ByteSet → List ℕ → Scan
 run_of s c text = if run_length (belongs c) text == 0 then None else Some (s, take (run_length (belongs c) text) text, drop (run_length (belongs c) text) text)
 
 abbrev pub keyword_of : List ℕ → Scan
-keyword_of text = if starts_simple text then run_of shape.Keyword class.Symbol text else None
+keyword_of text = if starts_simple text then run_of shape.Keyword set.Symbol text else None
 
 -- a primed symbol stands nowhere in a response
 abbrev pub symbol_shape : Bool → Shape
@@ -36,14 +29,14 @@ abbrev pub symbol_with : List ℕ → List ℕ → Scan
 symbol_with bytes rest = Some (symbol_shape (has_prime rest), bytes, past_prime rest)
 
 abbrev pub bare_of : List ℕ → Scan
-bare_of text = if starts_simple text then symbol_with (take (run_length (belongs class.Symbol) text) text) (drop (run_length (belongs class.Symbol) text) text) else None
+bare_of text = if starts_simple text then symbol_with (take (run_length (belongs set.Symbol) text) text) (drop (run_length (belongs set.Symbol) text) text) else None
 
 abbrev pub closed_by_bar : List ℕ → List ℕ → Scan
 closed_by_bar bytes [] = None
 closed_by_bar bytes (b ∷ bs) = if b == 124 then symbol_with bytes bs else None
 
 abbrev pub barred_of : List ℕ → Scan
-barred_of text = closed_by_bar (take (run_length (belongs class.Barred) text) text) (drop (run_length (belongs class.Barred) text) text)
+barred_of text = closed_by_bar (take (run_length (belongs set.Barred) text) text) (drop (run_length (belongs set.Barred) text) text)
 
 -- a string stands nowhere in a response
 abbrev pub quoted : List ℕ → Option ℕ → Scan
@@ -52,12 +45,12 @@ quoted text (Some n) = Some (shape.Other, take n text, drop 1 (drop n text))
 
 abbrev pub digits_of : List ℕ → Scan
 digits_of [] = None
-digits_of (b ∷ bs) = if b == 98 then run_of shape.Binary class.Binary bs else (if b == 120 then run_of shape.Other class.Hexadecimal bs else None)
+digits_of (b ∷ bs) = if b == 98 then run_of shape.Binary set.Binary bs else (if b == 120 then run_of shape.Other set.Hexadecimal bs else None)
 
 abbrev pub atom_at : ℕ → List ℕ → Scan
 atom_at b bs =
     if b == 58 then keyword_of bs else (if b == 124 then barred_of bs else (if b == 34 then quoted bs (quote_length 0 false bs)
-    else (if b == 35 then digits_of bs else (if is_digit b then run_of shape.Numeral class.Decimal (b ∷ bs) else bare_of (b ∷ bs)))))
+    else (if b == 35 then digits_of bs else (if is_digit b then run_of shape.Numeral set.Decimal (b ∷ bs) else bare_of (b ∷ bs)))))
 
 -- the token that a text begins with
 unfoldable pub token_of : List ℕ → Scan

@@ -12,7 +12,8 @@ use crate::declarations::Declarations;
 use crate::point::Answered;
 use crate::reader::{Reader, refused};
 use crate::table::Table;
-use crate::tokens::{is_blank, token};
+use crate::tokens::token;
+use moxi_sexpr::is_blank;
 use std::alloc::Global;
 use text_core::{End, FIRST_PLACE, Place};
 
