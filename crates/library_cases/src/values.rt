@@ -113,12 +113,11 @@ fn is_instance(domain: &Domain) -> bool
     }
 }
 
-#[tactic(auto, using(smv_meaning::specs::laws::Lists::front_is, smv_meaning::specs::laws::Lists::end_is))]
 fn are_instances(items: &Items) -> bool
     ensures { result ≡ list_all is_free_item (map plain_item items.now) }
 {
-    for k in 0..items.len() {
-        if !is_instance(&items.at(k).domain) {
+    for item in items {
+        if !is_instance(&item.domain) {
             return false;
         }
     }
@@ -140,12 +139,11 @@ fn is_free(element: &Element) -> bool
     }
 }
 
-#[tactic(auto, using(smv_meaning::specs::laws::Lists::front_is, smv_meaning::specs::laws::Lists::end_is))]
 fn elements_are_free(elements: &Elements) -> bool
     ensures { result ≡ list_all is_free_element (map plain_element elements.now) }
 {
-    for k in 0..elements.len() {
-        if !is_free(elements.at(k)) {
+    for element in elements {
+        if !is_free(element) {
             return false;
         }
     }
@@ -157,8 +155,7 @@ fn elements_are_free(elements: &Elements) -> bool
 fn are_free<'a>(parts: &[Instance<'a>]) -> bool
     ensures { result ≡ are_free (map instance_plain parts.now) }
 {
-    for k in 0..parts.len() {
-        let at = &parts[k];
+    for at in parts {
         if !elements_are_free(&at.module.elements) {
             return false;
         }

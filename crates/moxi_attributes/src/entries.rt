@@ -113,6 +113,7 @@ fn test_twice_one(
 }
 
 /// Tests that no name is declared twice: in the list, or once there and once in `names`.
+#[tactic(auto, using(crate::specs::laws::Collecting::also_append))]
 pub fn test_twice(
     alloc: Global,
     names: &mut NameSet,
@@ -122,8 +123,8 @@ pub fn test_twice(
     ensures names { OnOk result (names.new ≡ names_after names.old entries.now) }
     ensures finds { OnOk result (found.new ≡ also found.old (twice_failures names.old entries.now)) }
 {
-    for i in 0..entries.len() {
-        test_twice_one(alloc, names, entries.at(i), found)?;
+    for entry in entries {
+        test_twice_one(alloc, names, entry, found)?;
     }
     Ok(())
 }
@@ -134,8 +135,7 @@ pub fn locals_among(alloc: Global, entries: &Entries) -> Result<Locals, NoMemory
     ensures { IfOk result (λ l. l ≡ locals_among entries.now) }
 {
     let mut locals = Locals::new(alloc);
-    for i in 0..entries.len() {
-        let entry = entries.at(i);
+    for entry in entries {
         locals.add(Name::of(alloc, entry.name.bytes())?, entry.sort)?;
     }
     Ok(locals)
@@ -159,8 +159,7 @@ pub fn locals_found(alloc: Global, text: &Locals, entries: &Entries) -> Result<L
     ensures { IfOk result (λ l. l ≡ locals_found text.now entries.now) }
 {
     let mut locals = Locals::new(alloc);
-    for i in 0..entries.len() {
-        let entry = entries.at(i);
+    for entry in entries {
         let sort = sort_among(text, entry.name.bytes());
         locals.add(Name::of(alloc, entry.name.bytes())?, sort)?;
     }
@@ -172,8 +171,7 @@ pub fn variables_of(alloc: Global, entries: &Entries) -> Result<Variables, NoMem
     ensures { IfOk result (λ vs. vs ≡ variables_of entries.now) }
 {
     let mut variables = Variables::new(alloc);
-    for i in 0..entries.len() {
-        let entry = entries.at(i);
+    for entry in entries {
         add_variable(alloc, entry.name.bytes(), entry.sort, &mut variables)?;
     }
     Ok(variables)
@@ -203,8 +201,7 @@ fn add_variable(
 pub fn append(alloc: Global, all: &mut Entries, more: &Entries) -> Result<(), NoMemory>
     ensures { OnOk result (all.new ≡ all.old ++ more.now) }
 {
-    for i in 0..more.len() {
-        let entry = more.at(i);
+    for entry in more {
         all.push(Declared {
             name: Name::of(alloc, entry.name.bytes())?,
             place: entry.place,

@@ -145,8 +145,8 @@ fn unmarked_size(counts: &[u64], marks: &[bool]) -> u64
     ensures bound { result ≤ MOST }
 {
     let mut total = 0;
-    for k in 0..counts.len() {
-        let count = cap(counts[k]);
+    for (k, size) in counts.iter().enumerate() {
+        let count = cap(*size);
         let marked = is_marked(marks, k);
         total = sum(total, unless(marked, count));
     }

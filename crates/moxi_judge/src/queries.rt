@@ -115,8 +115,8 @@ fn mark_all(
     requires long { length marks.old.items ≡ length numbers.now }
     ensures { (before : ℕ → Bool) → AreMarks before numbers.now marks.old.items → OnOk result (AreMarks (λ r. before r || reaches (free_script system.now) (at now.now) r) numbers.now marks.new.items) }
 {
-    for i in 0..numbers.len() {
-        marks[i] = is_reached(alloc, system, numbers[i], marks[i], now)?;
+    for (i, number) in numbers.iter().enumerate() {
+        marks[i] = is_reached(alloc, system, *number, marks[i], now)?;
     }
     Ok(())
 }
@@ -162,8 +162,8 @@ fn are_reached(
         → IfOk result (λ all. all ≡ (list_all (λ r. before r || reaches (free_script system.now) (at now.now) r) numbers.now && list_any (reaches (free_script system.now) (at now.now)) numbers.now)) }
 {
     let mut some = false;
-    for i in 0..numbers.len() {
-        let reached = is_true_at(alloc, system, system.reachables(), numbers[i], now)?;
+    for (i, number) in numbers.iter().enumerate() {
+        let reached = is_true_at(alloc, system, system.reachables(), *number, now)?;
         if !reached && !marks[i] {
             return Ok(false);
         }

@@ -27,15 +27,6 @@ fit_lengths (a ∷ ls) (b ∷ bs) h = ap (λ t. same_known a.sort b.sort && t) (
     never true = refl
     never false = refl
 
-pub fit_step : (ls bs : List Declared) (i : ℕ) (a b : Declared) → i < length ls → i < length bs → a ≡ slice_index_or ls i a → b ≡ slice_index_or bs i b
-    → entries_fit (drop i ls) (drop i bs) ≡ (same_known a.sort b.sort && entries_fit (drop (i + 1) ls) (drop (i + 1) bs))
-fit_step ls bs i a b h g e f =
-    ap (λ xs. entries_fit xs (drop i bs)) (drop_more ls i a h ∙ ap (λ x. x ∷ drop (i + 1) ls) (sym e))
-    ∙ ap (λ xs. entries_fit (a ∷ drop (i + 1) ls) xs) (drop_more bs i b g ∙ ap (λ x. x ∷ drop (i + 1) bs) (sym f))
-
-pub fit_end : (ls bs : List Declared) (i : ℕ) → length ls ≤ i → length bs ≤ i → entries_fit (drop i ls) (drop i bs) ≡ true
-fit_end ls bs i h g = ap (λ xs. entries_fit xs (drop i bs)) (drop_all i ls h) ∙ ap (λ xs. entries_fit [] xs) (drop_all i bs g)
-
 pub systems_step : (rs : List ReadSystem) (i : ℕ) (x : ReadSystem) → i < length rs → x ≡ slice_index_or rs i x → map plain_reading (drop i rs) ≡ plain_reading x ∷ map plain_reading (drop (i + 1) rs)
 systems_step rs i x h e = ap (map plain_reading) (drop_more rs i x h ∙ ap (λ y. y ∷ drop (i + 1) rs) (sym e))
 

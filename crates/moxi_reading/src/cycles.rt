@@ -67,8 +67,7 @@ fn add_use_rows(
     requires { total + count < 2 ^ 64 }
     ensures { OnOk result (graph.new ≡ graph.old ++ use_rows total count names.now uses.now) }
 {
-    for i in 0..uses.len() {
-        let u = uses.at(i);
+    for u in uses {
         let ends = ends_at(alloc, total, count, names.place(u.target.bytes()))?;
         graph.push(ends)?;
     }
@@ -168,6 +167,7 @@ fn test_use(
 }
 
 // Tests the subsystems of a system, whose nodes start with this one.
+#[tactic(auto, using(moxi_attributes::specs::laws::Collecting::also_append))]
 fn test_uses(
     alloc: Global,
     graph: &Graph,
@@ -182,8 +182,8 @@ fn test_uses(
     requires there { node + length uses.now ≤ length graph.now }
     ensures { OnOk result (found.new ≡ also found.old (use_cycles graph.now node uses.now)) }
 {
-    for i in 0..uses.len() {
-        test_use(alloc, graph, ranks, node + i, uses.at(i), found)?;
+    for (i, u) in uses.iter().enumerate() {
+        test_use(alloc, graph, ranks, node + i, u, found)?;
     }
     Ok(())
 }

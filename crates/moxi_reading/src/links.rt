@@ -25,11 +25,11 @@ fn is_taken(scope: &Scope, names: &NameSet, name: &[u8]) -> bool
 }
 
 // Tests that no variable has the name of a constant or a function.
+#[tactic(auto, using(moxi_attributes::specs::laws::Collecting::also_append))]
 fn test_taken(scope: &Scope, names: &NameSet, variables: &Entries, found: &mut Option<Refusal>)
     ensures { found.new ≡ also found.old (taken_failures scope.now names.now variables.now) }
 {
-    for i in 0..variables.len() {
-        let d = variables.at(i);
+    for d in variables {
         fail_if(
             found,
             is_taken(scope, names, d.name.bytes()),
@@ -67,11 +67,11 @@ fn sort_at(l: &Lists, i: usize) -> Option<Sort>
 }
 
 // Tests the sorts of actuals.
+#[tactic(auto, using(moxi_attributes::specs::laws::Collecting::also_append))]
 fn test_actuals(lists: &Lists, actuals: &List<Actual>, found: &mut Option<Refusal>)
     ensures { found.new ≡ also found.old (actuals_clash lists.now 0 actuals.now) }
 {
-    for i in 0..actuals.len() {
-        let a = actuals.at(i);
+    for (i, a) in actuals.iter().enumerate() {
         test_clash(found, a.sort, sort_at(lists, i), a.place);
     }
 }
@@ -114,11 +114,12 @@ fn test_use(systems: &[ReadSystem], names: &NameSet, u: &Use, found: &mut Option
 }
 
 // Tests the subsystems of a system.
+#[tactic(auto, using(moxi_attributes::specs::laws::Collecting::also_append))]
 fn test_uses(systems: &[ReadSystem], names: &NameSet, uses: &List<Use>, found: &mut Option<Refusal>)
     ensures { found.new ≡ also found.old (uses_failures (map plain_reading systems.now) names.now uses.now) }
 {
-    for i in 0..uses.len() {
-        test_use(systems, names, uses.at(i), found);
+    for u in uses {
+        test_use(systems, names, u, found);
     }
 }
 
@@ -158,15 +159,15 @@ fn same_known(a: Option<Sort>, b: Option<Sort>) -> bool
 }
 
 // Whether there are as many entries in both, with the same sorts.
-#[tactic(auto, using(crate::proofs::LinkLaws::fit_lengths, crate::proofs::LinkLaws::fit_end, crate::proofs::LinkLaws::fit_step))]
+#[tactic(auto, using(crate::proofs::LinkLaws::fit_lengths))]
 fn entries_fit(a: &Entries, b: &Entries) -> bool
     ensures { result ≡ entries_fit a.now b.now }
 {
     if a.len() != b.len() {
         return false;
     }
-    for i in 0..a.len() {
-        if !same_known(a.at(i).sort, b.at(i).sort) {
+    for (x, y) in a.iter().zip(b) {
+        if !same_known(x.sort, y.sort) {
             return false;
         }
     }

@@ -44,8 +44,7 @@ fn actual_numbers(alloc: Global, actuals: &List<Actual>) -> Result<Numbers, NoMe
     ensures { IfOk result (λ ns. ns ≡ actual_numbers actuals.now) }
 {
     let mut numbers = Numbers::new(alloc);
-    for i in 0..actuals.len() {
-        let actual = actuals.at(i);
+    for actual in actuals {
         numbers.push(actual.number as u64)?;
     }
     Ok(numbers)
@@ -68,8 +67,7 @@ fn subsystems_of(alloc: Global, names: &NameSet, uses: &List<Use>) -> Result<Sub
     ensures { IfOk result (λ ss. ss ≡ map (subsystem_of names.now) uses.now) }
 {
     let mut subsystems = Subsystems::new(alloc);
-    for i in 0..uses.len() {
-        let u = uses.at(i);
+    for u in uses {
         let subsystem = subsystem_of(alloc, names, u)?;
         subsystems.push(subsystem)?;
     }

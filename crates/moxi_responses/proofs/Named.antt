@@ -1,5 +1,5 @@
 -- Names of queries, and that of a system.
-use Rattle.std.proofs.Common.{◌≡◌, ℕ, zero, suc, ◌+◌, ◌<◌, List, [], ◌∷◌, ◌++◌, map, drop, length, sym, ap, ◌∙◌, subst, append_assoc, arith}
+use Rattle.std.proofs.Common.{◌≡◌, ℕ, zero, suc, ◌<◌, List, [], ◌∷◌, map, length, ap, subst, arith}
 use Rattle.std.proofs.Math.Logic.{∥∥₁_map}
 use Rattle.std.specs.Prelude.{slice_index_or}
 use Rattle.text_core.specs.declared.place.Place.{Place}
@@ -11,15 +11,7 @@ use Rattle.moxi_scripts.specs.Script.{PlainScript, plain_system, system_at}
 use Rattle.moxi_scripts.specs.ScriptView.{plain_script}
 use Rattle.moxi_scripts.specs.Spelling.{SpellsScript}
 use Rattle.moxi_scripts.specs.Valid.{IsValid}
-use Rattle.moxi_scripts.proofs.Forms.{items_step}
 use Rattle.moxi_instantiate.proofs.Measured.{lt_held}
-
--- one round of a loop over a list
-pub mapped_step : {A B : Type 0} (g : B → A) (all more : List A) (xs : List B) (i n : ℕ) (y : A) (x : B) (total : List A)
-    → n ≡ length xs → i < n → x ≡ slice_index_or xs i x → more ≡ all ++ y ∷ [] → y ≡ g x → all ++ map g (drop i xs) ≡ total → more ++ map g (drop (i + 1) xs) ≡ total
-mapped_step g all more xs i n y x total e less is made same before =
-    ap (λ zs. zs ++ map g (drop (i + 1) xs)) made ∙ append_assoc all (y ∷ []) (map g (drop (i + 1) xs)) ∙ ap (λ z. all ++ z ∷ map g (drop (i + 1) xs)) same
-    ∙ sym (ap (λ zs. all ++ map g zs) (items_step xs i n x e less is)) ∙ before
 
 -- the plain form of a list has its length
 pub plain_length : (ss : List System) → length (map plain_system ss) ≡ length ss

@@ -20,8 +20,7 @@ pub(crate) fn names_of(alloc: Global, queries: &Queries) -> Result<Names, NoMemo
     ensures { IfOk result (λ names. names ≡ query_names queries.now) }
 {
     let mut names = Names::new(alloc);
-    for k in 0..queries.len() {
-        let query = queries.at(k);
+    for query in queries {
         let name = query.name.duplicate(alloc)?;
         names.push(name)?;
     }

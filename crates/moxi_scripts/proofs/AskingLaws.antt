@@ -1,7 +1,7 @@
 -- The queries of a valid script can be asked, and the tests of a step in two parts.
-use Rattle.std.proofs.Common.{◌≡◌, ℕ, zero, suc, ◌+◌, ◌<◌, ◌≤◌, ◌&&◌, ◌||◌, drop, Bool, true, false, cond, Some, List, [], ◌∷◌, ◌++◌, length, map, refl, sym, ap, ◌∙◌, subst, arith}
+use Rattle.std.proofs.Common.{◌≡◌, ℕ, zero, suc, ◌<◌, Bool, true, false, cond, Some, List, [], ◌∷◌, ◌++◌, length, map, refl, sym, ap, ◌∙◌, subst, arith}
 use Rattle.std.specs.Prelude.{slice_index_or}
-use Rattle.std.specs.List.{AllByRecursion, list_all, list_any}
+use Rattle.std.specs.List.{AllByRecursion}
 use Rattle.std.proofs.Math.Logic.{∥∥₁_map}
 use Rattle.text_core.specs.declared.verdict.Clause.{Clause}
 use Rattle.moxi_terms.specs.declared.data.Primes.TheVariants.{Refused}
@@ -18,7 +18,6 @@ use Rattle.moxi_scripts.specs.Script.{PlainFormula, PlainScript, plain_formula}
 use Rattle.moxi_scripts.specs.Valid.{AreFormulas, IsValid, IsValidQuery, check_variables, over}
 use Rattle.moxi_scripts.proofs.AskingSorts.{lt_held, sorted_held}
 use Rattle.moxi_scripts.proofs.AskingStands.{stands_sorted}
-use Rattle.moxi_scripts.proofs.Forms.{items_end, items_step}
 
 -- TESTS IN TWO PARTS
 
@@ -83,27 +82,3 @@ pub truth_at : (s : PlainScript) (fs : List Formula) (i : ℕ) (f : Formula) →
 truth_at s [] i f h l e = absurd (omega arith)
 truth_at s (g ∷ fs) zero f h l e = subst (λ (x : Formula). IsTruth s (plain x.term)) (sym e) h.0
 truth_at s (g ∷ fs) (suc i) f h l e = truth_at s fs i f h.1 (omega arith) e
-
--- a test of each number, one after another: what is left says the same as all, until one fails
-pub stops : (P : ℕ → Bool) (is : List ℕ) (i n x : ℕ) (b : Bool) → n ≡ length is → i < n → x ≡ slice_index_or is i x → list_all P (drop i is) ≡ list_all P is → b ≡ P x → b ≡ false → false ≡ list_all P is
-stops P is i n x b e l t kept free fails =
-    sym (ap (λ a. a && list_all P (drop (i + 1) is)) (sym free ∙ fails)) ∙ sym (ap (list_all P) (items_step is i n x e l t)) ∙ kept
-
-pub goes : (P : ℕ → Bool) (is : List ℕ) (i n x : ℕ) (b : Bool) → n ≡ length is → i < n → x ≡ slice_index_or is i x → list_all P (drop i is) ≡ list_all P is → b ≡ P x → b ≡ true → list_all P (drop (i + 1) is) ≡ list_all P is
-goes P is i n x b e l t kept free passes =
-    sym (ap (λ a. a && list_all P (drop (i + 1) is)) (sym free ∙ passes)) ∙ sym (ap (list_all P) (items_step is i n x e l t)) ∙ kept
-
-pub ends : (P : ℕ → Bool) (is : List ℕ) (i n : ℕ) → n ≡ length is → n ≤ i → list_all P (drop i is) ≡ list_all P is → true ≡ list_all P is
-ends P is i n e l kept = sym (ap (list_all P) (items_end is i n e l)) ∙ kept
-
--- the same, until one passes
-pub finds : (P : ℕ → Bool) (is : List ℕ) (i n x : ℕ) (b : Bool) → n ≡ length is → i < n → x ≡ slice_index_or is i x → list_any P (drop i is) ≡ list_any P is → b ≡ P x → b ≡ true → true ≡ list_any P is
-finds P is i n x b e l t kept free passes =
-    sym (ap (λ a. a || list_any P (drop (i + 1) is)) (sym free ∙ passes)) ∙ sym (ap (list_any P) (items_step is i n x e l t)) ∙ kept
-
-pub seeks : (P : ℕ → Bool) (is : List ℕ) (i n x : ℕ) (b : Bool) → n ≡ length is → i < n → x ≡ slice_index_or is i x → list_any P (drop i is) ≡ list_any P is → b ≡ P x → b ≡ false → list_any P (drop (i + 1) is) ≡ list_any P is
-seeks P is i n x b e l t kept free fails =
-    sym (ap (λ a. a || list_any P (drop (i + 1) is)) (sym free ∙ fails)) ∙ sym (ap (list_any P) (items_step is i n x e l t)) ∙ kept
-
-pub misses : (P : ℕ → Bool) (is : List ℕ) (i n : ℕ) → n ≡ length is → n ≤ i → list_any P (drop i is) ≡ list_any P is → false ≡ list_any P is
-misses P is i n e l kept = sym (ap (list_any P) (items_end is i n e l)) ∙ kept

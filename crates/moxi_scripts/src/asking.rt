@@ -85,8 +85,8 @@ fn all_hold(
     requires fit { Fit script.now.scope.enumerations (check_sorts (plain_script script.now)) now.now }
     ensures { IfOk result (λ hold. hold ≡ list_all (λ i. is_true (plain_script script.now) (at now.now) (at now.now) (formula_at (map plain_formula formulas.now) i)) numbers.now) }
 {
-    for i in 0..numbers.len() {
-        if !holds_at(alloc, script, formulas, *numbers.at(i), now)? {
+    for number in numbers {
+        if !holds_at(alloc, script, formulas, *number, now)? {
             return Ok(false);
         }
     }
@@ -168,8 +168,8 @@ fn each_reached(
     requires fit { Fit script.now.scope.enumerations (check_sorts (plain_script script.now)) now.now }
     ensures { IfOk result (λ each. each ≡ list_all (λ r. is_marked before.now r || reaches (plain_script script.now) (at now.now) r) numbers.now) }
 {
-    for i in 0..numbers.len() {
-        if !is_reached(alloc, script, *numbers.at(i), before, now)? {
+    for number in numbers {
+        if !is_reached(alloc, script, *number, before, now)? {
             return Ok(false);
         }
     }
@@ -188,8 +188,8 @@ fn some_reached(
     requires fit { Fit script.now.scope.enumerations (check_sorts (plain_script script.now)) now.now }
     ensures { IfOk result (λ some. some ≡ list_any (reaches (plain_script script.now) (at now.now)) numbers.now) }
 {
-    for i in 0..numbers.len() {
-        if holds_at(alloc, script, &script.check.reachables, *numbers.at(i), now)? {
+    for number in numbers {
+        if holds_at(alloc, script, &script.check.reachables, *number, now)? {
             return Ok(true);
         }
     }

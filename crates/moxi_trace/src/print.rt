@@ -105,13 +105,8 @@ fn put_statements(
 ) -> Result<(), NoMemory>
     ensures { OnOk result (out.new ≡ out.old ++ fronted_text scope.now.enumerations fronts.now values.now) }
 {
-    let mut rest = fronts.as_slice();
-    for value in values {
-        let Some((front, more)) = rest.split_first() else {
-            return Ok(())
-        };
+    for (front, value) in fronts.iter().zip(values) {
         put_statement(out, scope, front.bytes(), value)?;
-        rest = more;
     }
     Ok(())
 }

@@ -210,9 +210,9 @@ fn variables_again(alloc: Global, variables: &Variables) -> Result<Variables, No
     ensures { IfOk result (λ vs. vs ≡ variables.now) }
 {
     let mut all = Variables::with_capacity(alloc, variables.len())?;
-    for i in 0..variables.len() {
-        let variable = variable_again(alloc, variables.at(i))?;
-        all.push(variable)?;
+    for variable in variables {
+        let again = variable_again(alloc, variable)?;
+        all.push(again)?;
     }
     Ok(all)
 }

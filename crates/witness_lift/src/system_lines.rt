@@ -38,8 +38,7 @@ fn copied_variables(alloc: Global, variables: &Variables) -> Result<Variables, N
     ensures { IfOk result (λ copy. copy ≡ variables.now) }
 {
     let mut copy = Variables::with_capacity(alloc, variables.len())?;
-    for v in 0..variables.len() {
-        let variable = variables.at(v);
+    for variable in variables {
         let name = variable.name.duplicate(alloc)?;
         copy.push(Variable {
             name,

@@ -1,5 +1,6 @@
-use Rattle.std.proofs.Common.{◌≡◌, ◌++◌, drop}
+use Rattle.std.proofs.Common.{◌≡◌, ◌++◌}
+use Rattle.std.specs.Slice.Iter.{iter_rest}
 use Rattle.moxi_attributes.proofs.entries.append.Given as goal
 
-abbrev pub invariant-loop-i : goal.invariant-loop-i
-invariant-loop-i l = l.all ++ drop l.i l.more ≡ l.fn.all ++ l.more
+abbrev pub invariant-loop-entry : goal.invariant-loop-entry
+invariant-loop-entry l = l.all ++ iter_rest l.entry-iterator ≡ l.fn.all ++ l.more

@@ -1,6 +1,7 @@
-use Rattle.std.proofs.Common.{◌≡◌, ◌++◌, drop}
+use Rattle.std.proofs.Common.{◌≡◌, ◌++◌}
+use Rattle.std.specs.Slice.Iter.{iter_rest}
 use Rattle.moxi_scripts.specs.Entries.{variables_of}
 use Rattle.moxi_attributes.proofs.entries.variables_of.Given as goal
 
-abbrev pub invariant-loop-i : goal.invariant-loop-i
-invariant-loop-i l = l.variables ++ variables_of (drop l.i l.entries) ≡ variables_of l.entries
+abbrev pub invariant-loop-entry : goal.invariant-loop-entry
+invariant-loop-entry l = l.variables ++ variables_of (iter_rest l.entry-iterator) ≡ variables_of l.entries

@@ -1,19 +1,12 @@
 use Rattle.std.proofs.Common.{map, ap}
+use Rattle.std.proofs.lemmas.List.{nil_from_length}
+use Rattle.std.specs.Slice.Iter.{iter_rest}
 use Rattle.moxi_scripts.specs.Links.{uses_failures}
 use Rattle.moxi_declarations.specs.Views.{plain_reading}
-use Rattle.moxi_attributes.specs.laws.Collecting.{also_end, also_step}
-use Rattle.moxi_scripts.proofs.Forms.{items_end, items_step}
+use Rattle.moxi_attributes.specs.laws.Collecting.{also_end}
 use Rattle.moxi_reading.proofs.links.test_uses.Goals as goal
-
-pub loop-i-preserved : goal.loop-i-preserved
-loop-i-preserved c =
-    let l = c.loop-i in
-    let a = c.args in
-    let e = items_step a.uses.now l.i c.len-i-end.result c.at.result.now c.len-i-end.ensures c.loop-i-test.true c.at.ensures in
-    also_step _ _ _ _ _ _ c.test_use.ensures (ap (uses_failures (map plain_reading a.systems.now) a.names.now) e) l.invariant
 
 pub returns : goal.returns
 returns c =
-    let l = c.loop-i in
-    let a = c.args in
-    also_end _ _ _ (ap (uses_failures (map plain_reading a.systems.now) a.names.now) (items_end a.uses.now l.i c.len-i-end.result c.len-i-end.ensures c.loop-i-test.false)) l.invariant
+    let l = c.loop-u in
+    also_end _ _ _ (ap (uses_failures (map plain_reading c.args.systems.now) c.args.names.now) (nil_from_length (iter_rest l.u-iterator) c.in-None.ensures.steps.0)) l.invariant
