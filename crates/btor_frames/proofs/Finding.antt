@@ -3,14 +3,14 @@ use Rattle.std.proofs.Common.{◌≡◌, ℕ, suc, ◌+◌, ◌≤◌, Bool, tru
 use Rattle.std.specs.Prelude.{slice_get}
 use Rattle.std.specs.Option.{option_or}
 use Rattle.std.proofs.lemmas.Bool.{eq-eqb, ne_eqb, cases_eq}
-use Rattle.std.proofs.lemmas.List.{append-nil, get_or-set_same, get_or-set_other, length-set, length-take-le}
+use Rattle.std.proofs.lemmas.List.{get_or-set_same, get_or-set_other, length-set, length-take-le}
 use Rattle.btor_tree.specs.declared.args.Arg.{Arg}
 use Rattle.btor_tree.specs.declared.lines.Line.{Line}
 use Rattle.btor_tree.specs.declared.lines.LineOp.{LineOp}
-use Rattle.btor_tree.specs.Fits.{AreEarlier, IsWellFormed, operands, state_value, value_for, value_in}
+use Rattle.btor_tree.specs.Fits.{AreEarlier, IsWellFormed, state_value, value_for, value_in}
 use Rattle.btor_tree.proofs.Grows.{slice_get_inside, take_push}
-use Rattle.btor_tree.proofs.Paths.{operands_append, state_value_append}
-use Rattle.btor_frames.specs.Tables.{line_operands, noted}
+use Rattle.btor_tree.proofs.Paths.{state_value_append}
+use Rattle.btor_frames.specs.Tables.{noted}
 use Rattle.btor_tree.proofs.Sorts.{or_none}
 
 pub earlier_more : (n m : ℕ) (args : List Arg) → n ≤ m → AreEarlier n args → AreEarlier m args
@@ -77,8 +77,3 @@ values_step kind lines i l values new w g h e =
           ∙ sym (state_value_append kind (take i lines) (l ∷ []) s)
           ∙ sym (ap (λ ls. state_value kind ls s) (take_next lines i l g));
     }
-
--- the operands with those of one more line
-pub operands_step : (kind : LineOp → Bool) (lines : List Line) (i : ℕ) (l : Line) → slice_get lines i ≡ Some l → operands kind (take i lines) ++ line_operands kind l ≡ operands kind (take (i + 1) lines)
-operands_step kind lines i l g =
-    sym (ap (operands kind) (take_next lines i l g) ∙ operands_append kind (take i lines) (l ∷ []) ∙ ap (λ o. operands kind (take i lines) ++ o) (append-nil (line_operands kind l)))

@@ -1,9 +1,9 @@
 -- The truth of constraint and bad lines.
-use Rattle.std.proofs.Common.{◌≡◌, ℕ, zero, suc, ◌+◌, ◌<◌, ◌≤◌, Bool, true, false, cond, List, [], ◌∷◌, ◌++◌, length, take, get_or, Some, refl, sym, ap, ◌∙◌, subst, arith}
-use Rattle.std.specs.Prelude.{slice_get, IsSomeAnd, IsTrue}
+use Rattle.std.proofs.Common.{◌≡◌, ℕ, zero, suc, ◌+◌, ◌<◌, Bool, true, false, cond, List, [], ◌∷◌, ◌++◌, length, take, get_or, Some, refl, sym, ap, ◌∙◌, subst, arith}
+use Rattle.std.specs.Prelude.{slice_get, IsSomeAnd, IsTrue, ◌↔◌}
 use Rattle.std.specs.List.{AllByRecursion}
 use Rattle.std.proofs.lemmas.Option.{slice_get_read}
-use Rattle.std.proofs.lemmas.List.{take_all, take_more}
+use Rattle.std.proofs.lemmas.List.{take_more}
 use Rattle.word_core.specs.Words.{BitVector}
 use Rattle.btor_tree.specs.declared.args.Arg.{Arg}
 use Rattle.btor_tree.specs.declared.lines.Line.{Line}
@@ -87,8 +87,13 @@ bad_both lines found j a inside row b f h e r both =
       λ p. both.1 (subst (λ k. operand k a ≡ true_word) (sym r) (subst (λ o. IsSomeAnd o (λ x. operand row x ≡ true_word)) g p)),
     )
 
--- all constraints are true where the operands found are
-pub constraints_all : (lines : List Line) (found : List Arg) (i : ℕ) (inside row : List BitVector) → found ≡ operands is_constraint lines → length found ≤ i → inside ≡ row → AllByRecursion (λ a. operand inside a ≡ true_word) (take i found) → ConstraintsHold lines row
-constraints_all lines found i inside row f h r a =
-    subst (λ k. AllByRecursion (λ x. operand k x ≡ true_word) (operands is_constraint lines)) r
-    (subst (AllByRecursion (λ x. operand inside x ≡ true_word)) (take_all i found h ∙ f) a)
+-- all constraints are true exactly where the operands found are
+pub constraints_both : (lines : List Line) (found : List Arg) (inside row : List BitVector) → found ≡ operands is_constraint lines → inside ≡ row → AllByRecursion (λ a. operand inside a ≡ true_word) found ↔ ConstraintsHold lines row
+constraints_both lines found inside row f r =
+    subst (λ (k : List BitVector). AllByRecursion (λ a. operand inside a ≡ true_word) found ↔ AllByRecursion (λ a. operand k a ≡ true_word) (operands is_constraint lines)) r
+    (subst (λ xs. AllByRecursion (λ a. operand inside a ≡ true_word) found ↔ AllByRecursion (λ a. operand inside a ≡ true_word) xs) f (λ a. a, λ a. a))
+
+-- what is asked of each of none
+pub all_of_none : {X : Type 0} (P : X → Type 0) (xs : List X) → length xs ≡ 0 → AllByRecursion P xs
+all_of_none P [] h = tt
+all_of_none P (x ∷ xs) h = absurd (omega (arith, h))

@@ -95,9 +95,8 @@ impl Frames {
         ensures { IsTrue result ↔ ConstraintsHold nodes.now self.now.row }
     {
         nodes.are_well_formed();
-        let constraints = self.tables.constraints();
-        for i in 0..constraints.len() {
-            if !is_true(&self.row, constraints.at(i)) {
+        for constraint in self.tables.constraints() {
+            if !is_true(&self.row, constraint) {
                 return false;
             }
         }

@@ -101,8 +101,8 @@ fn values(alloc: Global, nodes: &Nodes, role: Role) -> Result<Vec<Option<Arg>>, 
     ensures { IfOk result (λ values. HoldsValues (has_role role) nodes.now values.items) }
 {
     let mut values = no_values(alloc, nodes.len())?;
-    for i in 0..nodes.len() {
-        note_value(&mut values, role, nodes.at(i));
+    for line in nodes.as_slice() {
+        note_value(&mut values, role, line);
     }
     Ok(values)
 }
@@ -135,8 +135,8 @@ fn role_operands(alloc: Global, nodes: &Nodes, role: Role) -> Result<List<Arg>, 
     ensures { IfOk result (λ args. args ≡ operands (has_role role) nodes.now) }
 {
     let mut args = List::new(alloc);
-    for i in 0..nodes.len() {
-        add_operands(&mut args, role, nodes.at(i))?;
+    for line in nodes {
+        add_operands(&mut args, role, line)?;
     }
     Ok(args)
 }
