@@ -92,8 +92,7 @@ fn without_spare(alloc: Global, stated: &Stateds) -> Result<Stateds, NoMemory>
     ensures { IfOk result (λ exact. exact ≡ stated.now) }
 {
     let mut exact = Stateds::with_capacity(alloc, stated.len())?;
-    for i in 0..stated.len() {
-        let one = stated.at(i);
+    for one in stated {
         exact.push(Stated {
             index: one.index,
             value: one.value,
@@ -108,7 +107,7 @@ fn clear(marks: &mut [bool], stated: &Stateds)
     ensures size { length marks.new ≡ length marks.old }
     ensures cleared { IsCleared marks.new }
 {
-    for i in 0..stated.len() {
-        marks[stated.at(i).index as usize] = false;
+    for one in stated.as_slice() {
+        marks[one.index as usize] = false;
     }
 }

@@ -19,9 +19,8 @@ fn table_of(alloc: Global, stated: &Stateds, count: u32) -> Result<Vec<Option<Wo
     ensures { IfOk result (λ table. TableOf stated.now count table.items) }
 {
     let mut table = vec![in alloc; None; count as usize]?;
-    for i in 0..stated.len() {
-        let stated = stated.at(i);
-        table[stated.index as usize] = Some(stated.value);
+    for one in stated.as_slice() {
+        table[one.index as usize] = Some(one.value);
     }
     Ok(table)
 }

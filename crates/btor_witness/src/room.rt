@@ -76,8 +76,7 @@ impl Room {
         requires below { AllByRecursion (IsBelow (fits.count_of fits.is_state nodes.now)) stated.now }
         ensures { IsTrue result ↔ AllByRecursion (IsWordThere (places_of fits.is_state nodes.now) self.now.frames.row) stated.now }
     {
-        for i in 0..stated.len() {
-            let statement = stated.at(i);
+        for statement in stated.as_slice() {
             let place = *self.places.at(statement.index as usize);
             if !is_same(self.frames.value(place), statement.value) {
                 return false;
@@ -128,8 +127,8 @@ pub fn zeros(alloc: Global, widths: &List<u32>) -> Result<Words, NoMemory>
     ensures { IfOk result (λ words. HoldsStated widths.now [] words) }
 {
     let mut words = Words::new(alloc);
-    for k in 0..widths.len() {
-        words.push(zero_of(*widths.at(k)))?;
+    for width in widths {
+        words.push(zero_of(*width))?;
     }
     Ok(words)
 }
@@ -153,8 +152,7 @@ fn put_stated(words: &mut Words, stated: &Stateds)
     requires { AllByRecursion (IsBelow (length words.old)) stated.now }
     ensures { ArePut stated.now words.old words.new }
 {
-    for i in 0..stated.len() {
-        let statement = stated.at(i);
+    for statement in stated.as_slice() {
         words.set(statement.index as usize, statement.value);
     }
 }
@@ -165,8 +163,7 @@ fn put_zeros(words: &mut Words, stated: &Stateds)
     requires words { AllByRecursion (λ s. IsWord s.value) stated.now }
     ensures { ArePut (map zeroed stated.now) words.old words.new }
 {
-    for i in 0..stated.len() {
-        let statement = stated.at(i);
+    for statement in stated.as_slice() {
         words.set(statement.index as usize, zero_of(statement.value.width()));
     }
 }

@@ -1,5 +1,6 @@
-use Rattle.std.proofs.Common.{◌≡◌, take}
+use Rattle.std.proofs.Common.{◌≡◌, ◌++◌}
+use Rattle.std.specs.Slice.Iter.{iter_rest}
 use Rattle.btor_witness.proofs.part.without_spare.Given as goal
 
-abbrev pub invariant-loop-i : goal.invariant-loop-i
-invariant-loop-i l = l.exact ≡ take l.i l.stated
+abbrev pub invariant-loop-one : goal.invariant-loop-one
+invariant-loop-one l = l.exact ++ iter_rest l.one-iterator ≡ l.stated
