@@ -1,56 +1,24 @@
 -- Names that are found by going through the declarations of a module.
-use Rattle.std.proofs.Common.{◌≡◌, ℕ, ◌+◌, ◌<◌, true, false, Some, if◌then◌else◌, List, ◌∷◌, map, drop, length, bytes_eq, refl, sym, ap, ◌∙◌}
+use Rattle.std.proofs.Common.{◌≡◌, ℕ, ◌+◌, ◌<◌, ◌⊎◌, inl, inr, true, Some, if◌then◌else◌, List, [], map, drop, length, bytes_eq, refl, sym, ap, ◌∙◌, arith}
 use Rattle.std.specs.Prelude.{slice_get, slice_index_or}
 use Rattle.std.specs.Option.{option_map}
 use Rattle.std.proofs.lemmas.Option.{slice_get_read}
-use Rattle.smv_text.specs.declared.tree.VarKind.{VarKind}
-use Rattle.smv_text.specs.declared.tree.Element.{Element}
 use Rattle.smv_text.specs.declared.tree.Parameter.{Parameter}
 use Rattle.smv_text.specs.declared.tree.Expr.{Expr}
-use Rattle.smv_text.specs.Tree.{PlainElement, PlainItem, PlainDefinition, vars, defines, trees_of}
-use Rattle.smv_text.specs.View.{plain, plain_element, plain_module}
+use Rattle.smv_text.specs.Tree.{trees_of}
+use Rattle.smv_text.specs.View.{plain, plain_module}
 use Rattle.smv_text.specs.declared.tree.Module.{Module}
 use Rattle.smv_meaning.specs.Instances.{module_named}
-use Rattle.smv_meaning.specs.Names.{Local, of_actual, among_items, among_definitions, among_elements, among_parameters}
+use Rattle.smv_meaning.specs.Names.{Local, among_parameters}
 use Rattle.smv_meaning.specs.laws.Lists.{front_is}
-
--- ---- elements
-
-elements_here : (i : ℕ) (es : List Element) (k : ℕ) (e : Element) (p : PlainElement) (x : List ℕ) → k < length es → e ≡ slice_index_or es k e → plain_element e ≡ p
-    → among_elements i (map plain_element (drop k es)) x ≡ among_elements i (p ∷ map plain_element (drop (k + 1) es)) x
-elements_here i es k e p x h is s =
-    ap (λ l. among_elements i (map plain_element l) x) (front_is es k (length es) e refl h is) ∙ ap (λ q. among_elements i (q ∷ map plain_element (drop (k + 1) es)) x) s
-
--- what is found among variables, or behind them
-pub among_vars : (i : ℕ) (es : List Element) (k : ℕ) (e : Element) (kind : VarKind) (items : List PlainItem) (x : List ℕ) (found : Local) → k < length es → e ≡ slice_index_or es k e → plain_element e ≡ vars kind items
-    → found ≡ among_items kind items x (among_elements i (map plain_element (drop (k + 1) es)) x)
-    → among_elements i (map plain_element (drop k es)) x ≡ among_elements i (map plain_element es) x
-    → found ≡ among_elements i (map plain_element es) x
-among_vars i es k e kind items x found h is s f before = f ∙ sym (elements_here i es k e (vars kind items) x h is s) ∙ before
-
--- what is found among definitions, or behind them
-pub among_defines : (i : ℕ) (es : List Element) (k : ℕ) (e : Element) (ds : List PlainDefinition) (x : List ℕ) (found : Local) → k < length es → e ≡ slice_index_or es k e → plain_element e ≡ defines ds
-    → found ≡ among_definitions i ds x (among_elements i (map plain_element (drop (k + 1) es)) x)
-    → among_elements i (map plain_element (drop k es)) x ≡ among_elements i (map plain_element es) x
-    → found ≡ among_elements i (map plain_element es) x
-among_defines i es k e ds x found h is s f before = f ∙ sym (elements_here i es k e (defines ds) x h is s) ∙ before
+use Rattle.smv_instances.specs.laws.NameLemmas.{parameters_end}
 
 -- ---- parameters
 
-parameters_here : (j : ℕ) (ys : List Parameter) (es : List Expr) (k : ℕ) (y : Parameter) (e : Expr) (x : List ℕ) (other : Local) → k < length ys → k < length es → y ≡ slice_index_or ys k y → e ≡ slice_index_or es k e
-    → among_parameters j (drop k ys) (trees_of (map plain (drop k es))) x other
-    ≡ (if bytes_eq y.name x then of_actual j (plain e) else among_parameters j (drop (k + 1) ys) (trees_of (map plain (drop (k + 1) es))) x other)
-parameters_here j ys es k y e x other h l is at =
-    ap (λ r. among_parameters j r (trees_of (map plain (drop k es))) x other) (front_is ys k (length ys) y refl h is)
-    ∙ ap (λ r. among_parameters j (y ∷ drop (k + 1) ys) (trees_of (map plain r)) x other) (front_is es k (length es) e refl l at)
-
-pub parameters_passed : (j : ℕ) (ys : List Parameter) (es : List Expr) (k : ℕ) (y : Parameter) (e : Expr) (name x : List ℕ) → k < length ys → k < length es → y ≡ slice_index_or ys k y → e ≡ slice_index_or es k e → name ≡ y.name
-    → bytes_eq name x ≡ false
-    → ((other : Local) → among_parameters j (drop k ys) (trees_of (map plain (drop k es))) x other ≡ among_parameters j ys (trees_of (map plain es)) x other)
-    → (other : Local) → among_parameters j (drop (k + 1) ys) (trees_of (map plain (drop (k + 1) es))) x other ≡ among_parameters j ys (trees_of (map plain es)) x other
-parameters_passed j ys es k y e name x h l is at n b f other =
-    let rest = among_parameters j (drop (k + 1) ys) (trees_of (map plain (drop (k + 1) es))) x other in
-    sym (parameters_here j ys es k y e x other h l is at ∙ ap (λ z. if bytes_eq z x then of_actual j (plain e) else rest) (sym n) ∙ ap (λ c. if c then of_actual j (plain e) else rest) b) ∙ f other
+-- none is found where either list is at its end
+pub none_among : (j : ℕ) (ys : List Parameter) (es : List Expr) (x : List ℕ) (other : Local) → (ys ≡ []) ⊎ (es ≡ []) → other ≡ among_parameters j ys (trees_of (map plain es)) x other
+none_among j ys es x other (inl e) = sym (ap (λ qs. among_parameters j qs (trees_of (map plain es)) x other) e)
+none_among j ys es x other (inr e) = sym (parameters_end j 0 (length es) ys es x other refl (omega (arith, ap length e)))
 
 -- ---- modules
 

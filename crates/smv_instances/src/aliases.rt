@@ -1,5 +1,5 @@
 // Computing the leads of all aliases.
-ghost use Rattle.std.specs.Prelude.{◌≡◌, ◌<◌, Some, true, false, length, map, slice_index_or, IfOk, OnOk};
+ghost use Rattle.std.specs.Prelude.{◌≡◌, ◌<◌, Some, true, false, map, IfOk, OnOk};
 ghost use Rattle.smv_instances.specs.Leads.{Right, IsOpen, StaysClosed, KeyWalk, WaitsIfOpen, AllWait, IsClosed, AreAll, AreCounted, led};
 ghost use Rattle.smv_instances.specs.View.{instance_plain};
 
@@ -80,13 +80,6 @@ fn retried<'a>(
     }
 }
 
-fn key_at<'a>(keys: &[Key<'a>], k: usize) -> Key<'a>
-    requires { k < length keys.now }
-    ensures { result ≡ slice_index_or keys.now k result }
-{
-    keys[k]
-}
-
 // Returns whether the lead of at least one of these parameters was stored.
 fn all_retried<'a>(
     parts: &Parts<'a>,
@@ -102,9 +95,8 @@ fn all_retried<'a>(
     ensures waits { IfOk result (λ b. b ≡ false → AllWait (map instance_plain parts.now) leads.new keys.now) }
 {
     let mut changed = false;
-    for k in 0..keys.len() {
-        let key = key_at(keys, k);
-        let kept = retried(parts, leads, keys, &key)?;
+    for key in keys {
+        let kept = retried(parts, leads, keys, key)?;
         changed = kept || changed;
     }
     Ok(changed)
@@ -195,9 +187,8 @@ fn all_searched<'a>(
     let mut opened = nothing_in(alloc);
     let mut stack = Vec::new(alloc);
     let mut closed = true;
-    for k in 0..keys.len() {
-        let key = key_at(keys, k);
-        let kept = first_searched(parts, leads, &mut opened, &mut stack, keys, key)?;
+    for key in keys {
+        let kept = first_searched(parts, leads, &mut opened, &mut stack, keys, *key)?;
         closed = kept && closed;
     }
     Ok(closed)

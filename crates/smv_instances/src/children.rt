@@ -18,8 +18,7 @@ pub fn children_of<'a>(alloc: Global, table: &[Instance<'a>]) -> Result<Children
     ensures { IfOk result (λ m. (i : ℕ) (x : List ℕ) → row_in m i x ≡ position (is_child i x) (map instance_plain table.now)) }
 {
     let mut children = no_rows_in(alloc, table.len())?;
-    for c in 0..table.len() {
-        let part = &table[c];
+    for (c, part) in table.iter().enumerate() {
         let Some(i) = part.parent else {
             continue;
         };

@@ -30,9 +30,8 @@ pub fn keys_of<'a>(alloc: Global, parts: &Parts<'a>) -> Result<Vec<Key<'a>>, NoM
     ensures { IfOk result (λ ks. AreAll (map instance_plain parts.now) ks.items) }
 {
     let mut keys = Vec::new(alloc);
-    for i in 0..parts.len() {
-        let module = parts.at(i).module;
-        add_keys(&mut keys, i, &module.parameters)?;
+    for (i, part) in parts.list().iter().enumerate() {
+        add_keys(&mut keys, i, &part.module.parameters)?;
     }
     Ok(keys)
 }

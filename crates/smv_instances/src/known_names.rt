@@ -171,8 +171,8 @@ pub fn known_in_all<'a>(alloc: Global, table: &[Instance<'a>]) -> Result<KnownNa
     ensures { IfOk result (Knows table.now) }
 {
     let mut known = no_rows_in(alloc, stored_names_in_all(table))?;
-    for i in 0..table.len() {
-        put_instance(&mut known, i, &table[i])?;
+    for (i, part) in table.iter().enumerate() {
+        put_instance(&mut known, i, part)?;
     }
     Ok(known)
 }

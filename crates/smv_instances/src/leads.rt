@@ -116,8 +116,8 @@ fn names_walk<'a>(parts: &Parts<'a>, leads: &Leads<'a>, i: usize, names: &'a Nam
 {
     let mut at = i;
     let mut depth = 0;
-    for k in 0..names.len() {
-        let name = names.at(k).bytes();
+    for (k, name) in names.as_slice().iter().enumerate() {
+        let name = name.bytes();
         let known = parts.local(at, name);
         // Most names before the last one are instances.
         if let Some(c) = instance_named(parts, at, name, known) {

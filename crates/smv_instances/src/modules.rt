@@ -95,8 +95,8 @@ fn place_among(modules: &Modules, name: &[u8]) -> Option<usize>
     ensures module { module_at modules.now result ≡ module_named (map plain_module modules.now) name.now }
     ensures within { IfSome result (λ k. k < length modules.now) }
 {
-    for k in 0..modules.len() {
-        if is_same(modules.at(k).name.bytes(), name) {
+    for (k, module) in modules.as_slice().iter().enumerate() {
+        if is_same(module.name.bytes(), name) {
             return Some(k);
         }
     }

@@ -29,8 +29,7 @@ pub fn is_small(module: &Module) -> bool
 fn among_items<'a>(kind: VarKind, items: &'a Items, x: &[u8]) -> Option<Known<'a>>
     ensures { (other : Local) → or_local result other ≡ among_items kind (map plain_item items.now) x.now other }
 {
-    for k in 0..items.len() {
-        let item = items.at(k);
+    for item in items {
         if is_same(item.name.bytes(), x) {
             return Some(domain(kind, &item.domain));
         }
@@ -43,8 +42,7 @@ fn among_items<'a>(kind: VarKind, items: &'a Items, x: &[u8]) -> Option<Known<'a
 fn among_definitions<'a>(i: usize, definitions: &'a Definitions, x: &[u8]) -> Option<Known<'a>>
     ensures { (other : Local) → or_local result other ≡ among_definitions i (map plain_definition definitions.now) x.now other }
 {
-    for k in 0..definitions.len() {
-        let definition = definitions.at(k);
+    for definition in definitions {
         if is_same(definition.name.bytes(), x) {
             return Some(Known::Body(i, &definition.body));
         }
@@ -57,8 +55,8 @@ fn among_definitions<'a>(i: usize, definitions: &'a Definitions, x: &[u8]) -> Op
 fn among_elements<'a>(i: usize, elements: &'a Elements, x: &[u8]) -> Known<'a>
     ensures { local_plain result ≡ among_elements i (map plain_element elements.now) x.now }
 {
-    for k in 0..elements.len() {
-        match elements.at(k) {
+    for element in elements {
+        match element {
             Element::Vars(kind, items) => if let Some(known) = among_items(*kind, items, x) {
                 return known;
             },
@@ -85,12 +83,8 @@ fn among_parameters<'a>(
 ) -> Option<Known<'a>>
     ensures { (other : Local) → or_local result other ≡ among_parameters parent parameters.now (trees_of (map plain actuals.now)) x.now other }
 {
-    for k in 0..parameters.len() {
-        if k >= actuals.len() {
-            return None;
-        }
-        let e = &actuals[k];
-        if is_same(parameters.at(k).name.bytes(), x) {
+    for (parameter, e) in parameters.iter().zip(actuals) {
+        if is_same(parameter.name.bytes(), x) {
             return Some(actual(parent, e));
         }
     }
