@@ -17,7 +17,7 @@ mod witness;
 pub use bytes::without_return;
 pub use judge::judge_btor;
 pub use phase::Phase;
-pub use print::print_witness;
+pub use print::{print_witness, table_of};
 pub use read::{MOST_BYTES, read_witness};
 pub use reader::{MOST_FRAMES, MOST_WORDS, input_widths, state_widths};
 pub use room::{is_same, state_places, zero_of, zeros};

@@ -13,12 +13,16 @@ use std::alloc::Global;
 use text_core::{NoMemory, Text};
 use word_core::Word;
 
-// The stated word for each index.
-fn table_of(alloc: Global, stated: &Stateds, count: u32) -> Result<Vec<Option<Word>>, NoMemory>
+/// Returns the last stated word for each index below `count`.
+pub fn table_of(
+    alloc: Global,
+    stated: &Stateds,
+    count: usize,
+) -> Result<Vec<Option<Word>>, NoMemory>
     requires { AllByRecursion (IsBelow count) stated.now }
     ensures { IfOk result (λ table. TableOf stated.now count table.items) }
 {
-    let mut table = vec![in alloc; None; count as usize]?;
+    let mut table = vec![in alloc; None; count]?;
     for one in stated.as_slice() {
         table[one.index as usize] = Some(one.value);
     }
@@ -30,7 +34,7 @@ fn rising(alloc: Global, stated: &Stateds, count: u32) -> Result<Stateds, NoMemo
     requires { AllByRecursion (IsBelow count) stated.now }
     ensures { IfOk result (λ r. r ≡ rising stated.now count) }
 {
-    let table = table_of(alloc, stated, count)?;
+    let table = table_of(alloc, stated, count as usize)?;
     let mut rising = Stateds::new(alloc);
     for index in 0..count {
         if let Some(value) = table[index as usize] {

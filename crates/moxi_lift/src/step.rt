@@ -1,5 +1,5 @@
 // The step of a frame of a witness.
-ghost use Rattle.std.specs.Prelude.{◌≡◌, ◌==◌, nat_lt, if◌then◌else◌, ℕ, List, length, None, IfOk};
+ghost use Rattle.std.specs.Prelude.{◌≡◌, ◌==◌, nat_lt, if◌then◌else◌, ℕ, List, length, IfOk};
 ghost use Rattle.std.specs.List.{AllByRecursion};
 ghost use Rattle.moxi_terms.specs.declared.data.Datum.TheVariants as datum;
 ghost use Rattle.moxi_terms.specs.Sorted.{AreSorts};
@@ -9,27 +9,14 @@ ghost use Rattle.moxi_terms.specs.Names.{constant_count};
 ghost use Rattle.moxi_lines.specs.Codes.{sort_bits};
 ghost use Rattle.moxi_lines.specs.Decoding.{decoded_datum};
 ghost use Rattle.btor_frames.specs.Judged.{stated_or};
-ghost use Rattle.btor_witness.specs.Printing.{IsBelow, TableOf};
+ghost use Rattle.btor_witness.specs.Printing.{IsBelow};
 ghost use Rattle.moxi_lift.specs.Lifted.{lifted_step};
 
-use btor_witness::{Stateds, zero_of};
+use btor_witness::{Stateds, table_of, zero_of};
 use moxi_terms::{Datum, Env, Scope, Sort, Variables};
 use std::alloc::Global;
 use text_core::NoMemory;
 use word_core::Word;
-
-// The stated word for each number.
-fn table_of(alloc: Global, stated: &Stateds, count: usize) -> Result<Vec<Option<Word>>, NoMemory>
-    requires { AllByRecursion (IsBelow count) stated.now }
-    ensures { IfOk result (λ table. TableOf stated.now count table.items) }
-{
-    let mut table = vec![in alloc; None; count]?;
-    for i in 0..stated.len() {
-        let stated = stated.at(i);
-        table[stated.index as usize] = Some(stated.value);
-    }
-    Ok(table)
-}
 
 // The number that the stated word spells, or zero.
 fn bits_of(stated: Option<Word>) -> u128
