@@ -72,12 +72,10 @@ fn is_from_right(links: &[FlatLink]) -> bool
 fn all_imply(links: &[FlatLink]) -> bool
     ensures { result ≡ flat_are_implies (flat_links_of (map plain_flat_link links.now)) }
 {
-    let mut rest = links;
-    while let Some((first, more)) = rest.split_first() {
-        if !is_implication(first.op) {
+    for link in links {
+        if !is_implication(link.op) {
             return false;
         }
-        rest = more;
     }
     true
 }
@@ -201,10 +199,8 @@ fn last_front<'a>(
     ensures { seen_value result ≡ row_fronts_value symbols.now now.now later.now (seen_value first.now) (flat_links_of (map plain_flat_link links.now)) }
 {
     let mut front = copy_value(first);
-    let mut rest = links;
-    while let Some((link, more)) = rest.split_first() {
+    for link in links {
         front = seen_of(next_front(symbols, link.op, &front, &link.operand, now, later));
-        rest = more;
     }
     front
 }
@@ -246,13 +242,11 @@ fn chosen<'a>(
     requires safe_last { RowSafe symbols.now now.now later.now (plain_flat last.now) }
     ensures { seen_value result ≡ (row_chosen symbols.now now.now later.now (flat_branches_of (map plain_flat_branch branches.now)) (row_denote symbols.now now.now later.now (plain_flat last.now))).value }
 {
-    let mut rest = branches;
-    while let Some((branch, more)) = rest.split_first() {
+    for branch in branches {
         let condition = evaluate(symbols, &branch.when, now, later);
         if truth_of(&condition) {
             return evaluate(symbols, &branch.value, now, later);
         }
-        rest = more;
     }
     evaluate(symbols, last, now, later)
 }
@@ -289,13 +283,11 @@ fn call_value<'a>(
 {
     if let Function::Count = f {
         let mut count = 0i64;
-        let mut rest = arguments;
-        while let Some((first, more)) = rest.split_first() {
-            let value = evaluate(symbols, first, now, later);
+        for argument in arguments {
+            let value = evaluate(symbols, argument, now, later);
             if truth_of(&value) {
                 count += 1;
             }
-            rest = more;
         }
         return Plain::Integer(count);
     }
@@ -368,12 +360,10 @@ fn one_permits<'a>(
     requires safe { RowSafeTrees symbols.now now.now later.now (flat_trees_of (map plain_flat elements.now)) }
     ensures { result ≡ flat_permits (symbol_value symbols.now) (row_values now.now) (row_values later.now) (flat_trees_of (map plain_flat elements.now)) (seen_value value.now) }
 {
-    let mut rest = elements;
-    while let Some((first, more)) = rest.split_first() {
-        if permits(symbols, first, value, now, later) {
+    for element in elements {
+        if permits(symbols, element, value, now, later) {
             return true;
         }
-        rest = more;
     }
     false
 }
@@ -392,13 +382,11 @@ fn chosen_permits<'a>(
     requires safe_last { RowSafe symbols.now now.now later.now (plain_flat last.now) }
     ensures { result ≡ (row_chosen symbols.now now.now later.now (flat_branches_of (map plain_flat_branch branches.now)) (row_denote symbols.now now.now later.now (plain_flat last.now))).permits (seen_value value.now) }
 {
-    let mut rest = branches;
-    while let Some((branch, more)) = rest.split_first() {
+    for branch in branches {
         let condition = evaluate(symbols, &branch.when, now, later);
         if truth_of(&condition) {
             return permits(symbols, &branch.value, value, now, later);
         }
-        rest = more;
     }
     permits(symbols, last, value, now, later)
 }
@@ -437,8 +425,7 @@ fn last_permits<'a>(
 {
     let mut front = copy_value(first);
     let mut has = first_has;
-    let mut rest = links;
-    while let Some((link, more)) = rest.split_first() {
+    for link in links {
         let next = next_front(symbols, link.op, &front, &link.operand, now, later);
         if let Infix::Union = link.op {
             let operand_has = permits(symbols, &link.operand, value, now, later);
@@ -447,7 +434,6 @@ fn last_permits<'a>(
             has = are_same_plain(&next, value);
         }
         front = seen_of(next);
-        rest = more;
     }
     has
 }

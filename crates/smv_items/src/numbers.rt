@@ -233,8 +233,8 @@ pub fn numbers_of<'a, 'n>(
     ensures { (t : List Specified) → map (λ m. m.name) items.now ≡ map (path_of t) (map origin_plain origins.now) → IfOk result (λ ns. AreNumbers t (map origin_plain origins.now) ns) }
 {
     let mut numbers = no_numbers(alloc, origins)?;
-    for k in 0..origins.len() {
-        note_item(&mut numbers, &origins[k], items[k].name.bytes(), k)?;
+    for (k, origin) in origins.iter().enumerate() {
+        note_item(&mut numbers, origin, items[k].name.bytes(), k)?;
     }
     Ok(numbers)
 }

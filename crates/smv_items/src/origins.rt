@@ -178,8 +178,8 @@ pub fn origins_in<'a>(alloc: Global, table: &Table<'a>) -> Result<Origins<'a>, N
     ensures { IfOk result (λ os. map origin_plain os.items ≡ origins_of (map instance_plain table.now)) }
 {
     let mut origins = Vec::new(alloc);
-    for i in 0..table.len() {
-        put_origins(&mut origins, i as u32, table.at(i))?;
+    for (i, part) in table.list().iter().enumerate() {
+        put_origins(&mut origins, i as u32, part)?;
     }
     Ok(origins)
 }
@@ -190,8 +190,8 @@ pub fn own_count(origins: &[Origin], i: usize) -> usize
     ensures bound { result ≤ length origins.now }
     ensures own { result ≡ own_count i (map origin_plain origins.now) }
 {
-    for k in 0..origins.len() {
-        if origins[k].instance as usize != i {
+    for (k, origin) in origins.iter().enumerate() {
+        if origin.instance as usize != i {
             return k;
         }
     }

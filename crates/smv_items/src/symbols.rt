@@ -142,9 +142,8 @@ pub fn symbols_in<'a>(alloc: Global, table: &Table<'a>) -> Result<Symbols, NoMem
     ensures { IfOk result (λ s. s ≡ symbols_of (map instance_plain table.now)) }
 {
     let mut symbols = Symbols::new(alloc);
-    for i in 0..table.len() {
-        let module = table.at(i).module;
-        note_elements(alloc, &mut symbols, &module.elements)?;
+    for part in table.list() {
+        note_elements(alloc, &mut symbols, &part.module.elements)?;
     }
     Ok(symbols)
 }

@@ -169,8 +169,8 @@ fn assignments_in<'a>(alloc: Global, table: &Table<'a>) -> Result<Vec<Assignment
     ensures { IfOk result (λ list. map (assigned_plain table.now) list.items ≡ over_instances (λ i at. flat_map (element_assigns (found_in (map instance_plain table.now)) i) at.module.elements) 0 (map instance_plain table.now)) }
 {
     let mut list = Vec::new(alloc);
-    for i in 0..table.len() {
-        add_elements(&mut list, table, i, &table.at(i).module.elements)?;
+    for (i, part) in table.list().iter().enumerate() {
+        add_elements(&mut list, table, i, &part.module.elements)?;
     }
     Ok(list)
 }

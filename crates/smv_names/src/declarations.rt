@@ -151,8 +151,7 @@ pub(crate) fn declared_checked<'a>(
     let list = own.declarations();
     let twice = own.twice();
     let mut count = met;
-    for k in 0..list.len() {
-        let declaration = &list[k];
+    for (k, declaration) in list.iter().enumerate() {
         if stands_at(twice, k) {
             return Err(NamesEnd::Bad(Refusal {
                 kind: smv::NAME_TWICE,

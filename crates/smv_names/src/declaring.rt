@@ -86,8 +86,7 @@ fn place_twice(alloc: Global, list: &[Declaration]) -> Result<Option<usize>, NoM
     ensures { IfOk result (λ place. place ≡ first_twice 0 [] (map declared_plain list.now)) }
 {
     let mut seen = no_rows(alloc, list.len())?;
-    for k in 0..list.len() {
-        let declaration = &list[k];
+    for (k, declaration) in list.iter().enumerate() {
         if row_value(&seen, declaration.name).is_some() {
             return Ok(Some(k));
         }

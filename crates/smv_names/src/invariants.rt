@@ -33,8 +33,8 @@ fn missing_behind(missing: u64, elements: &Elements) -> u64
     ensures { (i : ℕ) → result ≡ missing - length (flat_map (element_invariants i) (map plain_element elements.now)) }
 {
     let mut missing = missing;
-    for k in 0..elements.len() {
-        missing = missing_after(missing, elements.at(k));
+    for element in elements.as_slice() {
+        missing = missing_after(missing, element);
     }
     missing
 }
@@ -46,8 +46,8 @@ pub fn invariants_checked(table: &Table, end: Place, needed: u32) -> Result<(), 
     ensures { Settles result (check 27 end (nat_lt needed (length (invariants_in (map instance_plain table.now)))) ∷ []) }
 {
     let mut missing = needed as u64 + 1;
-    for i in 0..table.len() {
-        missing = missing_behind(missing, &table.at(i).module.elements);
+    for part in table.list() {
+        missing = missing_behind(missing, &part.module.elements);
     }
     if missing == 0 {
         Ok(())

@@ -20,8 +20,7 @@ fn names_checked(alloc: Global, modules: &Modules) -> Result<(), NamesEnd>
     ensures { Settles result (name_checks [] (map plain_module modules.now)) }
 {
     let mut seen = no_names(alloc);
-    for k in 0..modules.len() {
-        let module = modules.at(k);
+    for module in modules {
         let name = module.name.bytes();
         if value_under(&seen, name).is_some() {
             return Err(NamesEnd::Bad(Refusal {

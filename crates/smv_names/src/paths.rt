@@ -150,8 +150,8 @@ pub fn paths_checked<'a>(alloc: Global, table: &Table<'a>) -> Result<(), NamesEn
     ensures { Settles result (over_instances (path_checks (found_in (map instance_plain table.now))) 0 (map instance_plain table.now)) }
 {
     let mut paths = Vec::new(alloc);
-    for i in 0..table.len() {
-        instance_checked(table, i, table.at(i), &mut paths)?;
+    for (i, part) in table.list().iter().enumerate() {
+        instance_checked(table, i, part, &mut paths)?;
     }
     Ok(())
 }

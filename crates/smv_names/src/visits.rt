@@ -79,8 +79,8 @@ pub(crate) fn visited<'a>(
         Err(end) => return Err(end),
     };
     let list = own.declarations();
-    for k in 0..list.len() {
-        match item_visited(alloc, modules, deep - 1, above, path, list[k].item, count) {
+    for declaration in list {
+        match item_visited(alloc, modules, deep - 1, above, path, declaration.item, count) {
             Ok(more) => count = more,
             Err(end) => return Err(end),
         }

@@ -113,8 +113,7 @@ pub fn bodies_in<'a>(alloc: Global, table: &Table<'a>) -> Result<Vec<Body<'a>>, 
     ensures { IfOk result (λ fs. map body_plain fs.items ≡ placed_bodies (map instance_plain table.now)) }
 {
     let mut bodies = Vec::new(alloc);
-    for i in 0..table.len() {
-        let at = table.at(i);
+    for (i, at) in table.list().iter().enumerate() {
         add_actuals(&mut bodies, i, &at.module.parameters, at.actuals)?;
         add_elements(&mut bodies, i, &at.module.elements)?;
     }

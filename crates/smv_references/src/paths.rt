@@ -81,10 +81,8 @@ fn add_paths<'a>(paths: &mut Vec<&'a Path>, e: &'a Expr) -> Result<(), NoMemory>
 fn add_link_paths<'a>(paths: &mut Vec<&'a Path>, links: &'a [Link]) -> Result<(), NoMemory>
     ensures { (more : List PlainPath) → OnOk result (map path_seen paths.new.items ++ more ≡ map path_seen paths.old.items ++ link_paths (links_of (map plain_link links.now)) more) }
 {
-    let mut rest = links;
-    while let Some((link, more)) = rest.split_first() {
+    for link in links {
         add_paths(paths, &link.operand)?;
-        rest = more;
     }
     Ok(())
 }
@@ -93,11 +91,9 @@ fn add_link_paths<'a>(paths: &mut Vec<&'a Path>, links: &'a [Link]) -> Result<()
 fn add_branch_paths<'a>(paths: &mut Vec<&'a Path>, branches: &'a [Branch]) -> Result<(), NoMemory>
     ensures { (more : List PlainPath) → OnOk result (map path_seen paths.new.items ++ more ≡ map path_seen paths.old.items ++ branch_paths (branches_of (map plain_branch branches.now)) more) }
 {
-    let mut rest = branches;
-    while let Some((branch, more)) = rest.split_first() {
+    for branch in branches {
         add_paths(paths, &branch.when)?;
         add_paths(paths, &branch.value)?;
-        rest = more;
     }
     Ok(())
 }
@@ -106,10 +102,8 @@ fn add_branch_paths<'a>(paths: &mut Vec<&'a Path>, branches: &'a [Branch]) -> Re
 fn add_tree_paths<'a>(paths: &mut Vec<&'a Path>, trees: &'a [Expr]) -> Result<(), NoMemory>
     ensures { (more : List PlainPath) → OnOk result (map path_seen paths.new.items ++ more ≡ map path_seen paths.old.items ++ tree_paths (trees_of (map plain trees.now)) more) }
 {
-    let mut rest = trees;
-    while let Some((first, more)) = rest.split_first() {
-        add_paths(paths, first)?;
-        rest = more;
+    for tree in trees {
+        add_paths(paths, tree)?;
     }
     Ok(())
 }

@@ -37,8 +37,7 @@ pub fn numbers_of<'a>(alloc: Global, bodies: &[Body<'a>]) -> Result<BodyNumbers<
     ensures { IfOk result (λ m. (i : ℕ) (x : List ℕ) → row_in m i x ≡ number_in (map key_of bodies.now) (i, x)) }
 {
     let mut numbers = no_rows_in(alloc, bodies.len())?;
-    for k in 0..bodies.len() {
-        let body = &bodies[k];
+    for (k, body) in bodies.iter().enumerate() {
         add_first_in(&mut numbers, body.instance, body.name, k)?;
     }
     Ok(numbers)
@@ -86,8 +85,8 @@ fn add_path_numbers<'a>(
     ensures { OnOk result (row.new ≡ row.old ++ path_numbers (map instance_plain table.now) i names.now) }
 {
     let mut at = i;
-    for k in 0..names.len() {
-        let x = names.at(k).bytes();
+    for name in names.as_slice() {
+        let x = name.bytes();
         let known = table.local(at, x);
         note(numbers, at, x, known, row)?;
         match table.instance_of_name(at, x, known) {
@@ -171,8 +170,8 @@ fn graph_of<'a>(alloc: Global, table: &Table<'a>, bodies: &[Body<'a>]) -> Result
 {
     let numbers = numbers_of(alloc, bodies)?;
     let mut graph = List::new(alloc);
-    for k in 0..bodies.len() {
-        graph.push(row_of(alloc, table, &numbers, &bodies[k])?)?;
+    for body in bodies {
+        graph.push(row_of(alloc, table, &numbers, body)?)?;
     }
     Ok(graph)
 }

@@ -26,10 +26,8 @@ pub(crate) fn bodies_of<'f>(
     ensures { IfOk result (λ bodies. AreItemBodies items.now (map form_plain formulas.now) bodies.items) }
 {
     let mut bodies = no_bodies(alloc, items)?;
-    let mut rest = formulas;
-    while let Some((formula, more)) = rest.split_first() {
+    for formula in formulas {
         add_formula(formula, &mut bodies);
-        rest = more;
     }
     Ok(bodies)
 }

@@ -79,12 +79,10 @@ fn borrow_values<'a>(alloc: Global, from: &'a [Value]) -> Result<Vec<Seen<'a>>, 
     ensures { IfOk result (λ values. map seen_value values.items ≡ from.now) }
 {
     let mut values = Vec::new(alloc);
-    let mut rest = from;
-    while let Some((value, more)) = rest.split_first() {
+    for value in from {
         if values.push(borrow_value(value)).is_err() {
             return Err(NoMemory);
         }
-        rest = more;
     }
     Ok(values)
 }
@@ -102,10 +100,8 @@ fn carry_change<'a>(change: &'a Change, values: &mut Vec<Seen<'a>>)
 fn carry_changes<'a>(changes: &'a [Change], values: &mut Vec<Seen<'a>>)
     ensures { map seen_value values.new.items ≡ set_by (map seen_value values.old.items) changes.now }
 {
-    let mut rest = changes;
-    while let Some((change, more)) = rest.split_first() {
+    for change in changes {
         carry_change(change, values);
-        rest = more;
     }
 }
 
@@ -115,8 +111,8 @@ fn copy_values<'a>(from: &[Seen<'a>], values: &mut Vec<Seen<'a>>) -> Result<(), 
     ensures { OnOk result (values.new.items ≡ from.now) }
 {
     values.clear();
-    for k in 0..from.len() {
-        if values.push(copy_value(&from[k])).is_err() {
+    for value in from {
+        if values.push(copy_value(value)).is_err() {
             return Err(NoMemory);
         }
     }

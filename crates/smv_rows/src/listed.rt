@@ -67,15 +67,13 @@ pub(crate) fn give_listed<'a>(
     values.clear();
     let mut state = state;
     let mut label = label;
-    let mut rest = items;
-    while let Some((item, more)) = rest.split_first() {
+    for item in items {
         let (value, state_left, label_left) = next_value(item.kind, state, label);
         if values.push(value).is_err() {
             return Err(NoMemory);
         }
         state = state_left;
         label = label_left;
-        rest = more;
     }
     Ok(())
 }
@@ -98,7 +96,7 @@ pub(crate) fn give_inputs<'a>(items: &[FlatItem], other: &[Seen<'a>], values: &m
     ensures size { length values.new.items ≡ length values.old.items }
     ensures inputs { (k : ℕ) → row_values values.new.items k ≡ input_or (slice_get items.now k) (row_values other.now k) (row_values values.old.items k) }
 {
-    for k in 0..items.len() {
-        give_input(&items[k], k, other, values);
+    for (k, item) in items.iter().enumerate() {
+        give_input(item, k, other, values);
     }
 }

@@ -45,12 +45,10 @@ pub(crate) fn is_input(kind: ItemKind) -> bool
 fn has_inputs(items: &[FlatItem]) -> bool
     ensures { result ≡ has_inputs items.now }
 {
-    let mut rest = items;
-    while let Some((item, more)) = rest.split_first() {
+    for item in items {
         if is_input(item.kind) {
             return true;
         }
-        rest = more;
     }
     false
 }

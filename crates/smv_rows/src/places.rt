@@ -22,10 +22,8 @@ pub(crate) fn name_all(
 ) -> Result<(), NoMemory>
     ensures { OnOk result (AreNamed names.new items.now) }
 {
-    let mut rest = items;
-    while let Some((item, more)) = rest.split_first() {
+    for item in items {
         names.declare(alloc, item.name.bytes())?;
-        rest = more;
     }
     Ok(())
 }
@@ -40,14 +38,12 @@ pub(crate) fn places_of(
     ensures { IfOk result (λ places. HavePlaces names.now places.items items.now) }
 {
     let mut places = Vec::new(alloc);
-    let mut rest = items;
-    while let Some((item, more)) = rest.split_first() {
+    for item in items {
         let Some(place) = names.place(item.name.bytes()) else {
             unreachable!()
         };
         let kind = item.kind;
         places.push(ItemPlace { kind, place })?;
-        rest = more;
     }
     Ok(places)
 }

@@ -170,10 +170,8 @@ fn fill_bodies<'a>(
     ensures size { length values.new.items ≡ length values.old.items }
     ensures row { row_values values.new.items ≡ filled (bodies_in bodies.now) (symbol_value symbols.now) (row_values values.old.items) order.now }
 {
-    let mut rest = order;
-    while let Some((k, more)) = rest.split_first() {
+    for k in order {
         fill_body(symbols, bodies[*k], *k, values);
-        rest = more;
     }
 }
 

@@ -90,12 +90,10 @@ fn formulas_hold<'a>(
     ensures { result ≡ row_forms_hold flat.now.symbols.now when target.now now.now later.now (map form_plain flat.now.formulas.now) }
 {
     let symbols = flat.symbols;
-    let mut rest = flat.formulas;
-    while let Some((formula, more)) = rest.split_first() {
+    for formula in flat.formulas {
         if !formula_holds(symbols, formula, when, target, now, later) {
             return false;
         }
-        rest = more;
     }
     true
 }
@@ -149,14 +147,10 @@ fn kind_stays<'a>(kind: ItemKind, k: usize, now: &[Seen<'a>], later: &[Seen<'a>]
 fn all_stay<'a>(items: &[FlatItem], now: &[Seen<'a>], later: &[Seen<'a>]) -> bool
     ensures { result ≡ items_stay (row_values now.now) (row_values later.now) 0 (map item_plain items.now) }
 {
-    let mut k = 0usize;
-    let mut rest = items;
-    while let Some((item, more)) = rest.split_first() {
+    for (k, item) in items.iter().enumerate() {
         if !kind_stays(item.kind, k, now, later) {
             return false;
         }
-        k += 1;
-        rest = more;
     }
     true
 }
@@ -173,15 +167,13 @@ fn invariant_at(formulas: &[FlatFormula], j: u32) -> Option<&FlatExpr>
     ensures { body_plain result ≡ slice_get (forms_invariants (map form_plain formulas.now)) j }
 {
     let mut left = j;
-    let mut rest = formulas;
-    while let Some((formula, more)) = rest.split_first() {
+    for formula in formulas {
         if let Role::Invariant = formula.role {
             if left == 0 {
                 return Some(&formula.body);
             }
             left -= 1;
         }
-        rest = more;
     }
     None
 }

@@ -98,12 +98,10 @@ pub(crate) fn give_variables<'a>(
     ensures { OnOk result (map seen_value values.new.items ≡ map (given_value state.now label.now) places.now) }
 {
     values.clear();
-    let mut rest = places;
-    while let Some((item, more)) = rest.split_first() {
+    for item in places {
         if values.push(value_of(item, state, label)).is_err() {
             return Err(NoMemory);
         }
-        rest = more;
     }
     Ok(())
 }

@@ -1,10 +1,7 @@
-use Rattle.std.proofs.Common.{◌≡◌, map, length}
+use Rattle.std.proofs.Common.{◌≡◌, drop, map}
 use Rattle.smv_flat.specs.FlatTree.{flat_links_of, flat_are_implies}
 use Rattle.smv_flat.specs.FlatView.{plain_flat_link}
 use Rattle.smv_flat_evaluation.proofs.evaluation.all_imply.Given as goal
 
-abbrev pub invariant-loop-first : goal.invariant-loop-first
-invariant-loop-first l = flat_are_implies (flat_links_of (map plain_flat_link l.rest)) ≡ flat_are_implies (flat_links_of (map plain_flat_link l.fn.links))
-
-abbrev pub decreases-loop-first : goal.decreases-loop-first
-decreases-loop-first l = length l.rest
+abbrev pub invariant-loop-link : goal.invariant-loop-link
+invariant-loop-link l = flat_are_implies (flat_links_of (map plain_flat_link (drop l.link-index l.links))) ≡ flat_are_implies (flat_links_of (map plain_flat_link l.links))

@@ -7,5 +7,5 @@ use Rattle.smv_items.proofs.origins.origins_in.Given as goal
 
 abbrev pub invariant-loop-i : goal.invariant-loop-i
 invariant-loop-i l =
-    map origin_plain l.origins.items ++ over_instances items_here l.i (map instance_plain (drop l.i l.table))
+    map origin_plain l.origins.items ++ over_instances items_here l.i (map instance_plain (drop l.i l.part-items))
     ≡ origins_of (map instance_plain l.table)

@@ -7,5 +7,5 @@ use Rattle.smv_names.proofs.paths.paths_checked.Given as goal
 
 abbrev pub invariant-loop-i : goal.invariant-loop-i
 invariant-loop-i l =
-    first_failing (over_instances (path_checks (found_in (map instance_plain l.table))) l.i (map instance_plain (drop l.i l.table)))
+    first_failing (over_instances (path_checks (found_in (map instance_plain l.table))) l.i (map instance_plain (drop l.i l.part-items)))
     ≡ first_failing (over_instances (path_checks (found_in (map instance_plain l.table))) 0 (map instance_plain l.table))

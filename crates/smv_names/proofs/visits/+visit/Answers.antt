@@ -25,8 +25,8 @@ visited-returns-in-Err-clause-counts t c =
     begins_bad c.args.deep (map plain_module c.args.modules.now) above (names_above c.as_slice.result.now) c.args.path.now c.args.met (plain_module c.args.own.now)
     (declared_in (plain_module c.args.own.now)) c.in-Err.end (omega arith) own refl c.in-Err.ensures
 
-pub visited-loop-k-init : goal.visited-loop-k-init
-visited-loop-k-init t c =
+pub visited-loop-declaration-init : goal.visited-loop-declaration-init
+visited-loop-declaration-init t c =
     let ms = map plain_module c.args.modules.now in
     let old = c.args.above.now.items in
     let above = names_above old in
@@ -51,38 +51,38 @@ visited-returns-in-Err-item_visited-clause-counts t c =
     let list = c.declarations-list.result.now in
     let path = c.args.path.now in
     let f = visits (c.args.deep - 1) ms (c.args.own.now.name ∷ names_above c.args.above.now.items) in
-    let declaration = slice_index_or list c.loop-k.k c.index-list-k.result in
+    let declaration = slice_index_or list c.loop-declaration.declaration-index c.declaration-item.result in
     let d = declared_plain declaration in
-    let rest = map declared_plain (drop (c.loop-k.k + 1) list) in
-    let front : map declared_plain (drop c.loop-k.k list) ≡ d ∷ rest = ap (map declared_plain) (front_is list c.loop-k.k (length list) declaration refl (omega arith) (ap (slice_index_or list c.loop-k.k) c.index-list-k.is)) in
+    let rest = map declared_plain (drop (c.loop-declaration.declaration-index + 1) list) in
+    let front : map declared_plain (drop c.loop-declaration.declaration-index list) ≡ d ∷ rest = ap (map declared_plain) (front_is list c.loop-declaration.declaration-index (length list) declaration refl (omega arith) (ap (slice_index_or list c.loop-declaration.k) c.declaration-item.is)) in
     let vs = item_visits f ms path d.item in
-    subst (λ o. IsBad c.in-Err-item_visited.end o) (ap (λ l. first_failing (visit_checks ms c.loop-k.count (declared_visits f ms path l))) (sym front) ∙ c.loop-k.invariant.checks)
-    (ends_in ms c.loop-k.count vs (declared_visits f ms path rest) c.in-Err-item_visited.end
-    (subst (λ a. IsBad c.in-Err-item_visited.end (first_failing (visit_checks ms c.loop-k.count (item_visits (visits (c.args.deep - 1) ms a) ms path d.item)))) c.loop-k.invariant.above c.in-Err-item_visited.ensures.counts))
+    subst (λ o. IsBad c.in-Err-item_visited.end o) (ap (λ l. first_failing (visit_checks ms c.loop-declaration.count (declared_visits f ms path l))) (sym front) ∙ c.loop-declaration.invariant.checks)
+    (ends_in ms c.loop-declaration.count vs (declared_visits f ms path rest) c.in-Err-item_visited.end
+    (subst (λ a. IsBad c.in-Err-item_visited.end (first_failing (visit_checks ms c.loop-declaration.count (item_visits (visits (c.args.deep - 1) ms a) ms path d.item)))) c.loop-declaration.invariant.above c.in-Err-item_visited.ensures.counts))
 
-pub visited-loop-k-preserved : goal.visited-loop-k-preserved
-visited-loop-k-preserved t c =
+pub visited-loop-declaration-preserved : goal.visited-loop-declaration-preserved
+visited-loop-declaration-preserved t c =
     let ms = map plain_module c.args.modules.now in
     let list = c.declarations-list.result.now in
     let path = c.args.path.now in
     let f = visits (c.args.deep - 1) ms (c.args.own.now.name ∷ names_above c.args.above.now.items) in
-    let declaration = slice_index_or list c.loop-k.k c.index-list-k.result in
+    let declaration = slice_index_or list c.loop-declaration.declaration-index c.declaration-item.result in
     let d = declared_plain declaration in
-    let rest = map declared_plain (drop (c.loop-k.k + 1) list) in
-    let front : map declared_plain (drop c.loop-k.k list) ≡ d ∷ rest = ap (map declared_plain) (front_is list c.loop-k.k (length list) declaration refl (omega arith) (ap (slice_index_or list c.loop-k.k) c.index-list-k.is)) in
+    let rest = map declared_plain (drop (c.loop-declaration.declaration-index + 1) list) in
+    let front : map declared_plain (drop c.loop-declaration.declaration-index list) ≡ d ∷ rest = ap (map declared_plain) (front_is list c.loop-declaration.declaration-index (length list) declaration refl (omega arith) (ap (slice_index_or list c.loop-declaration.k) c.declaration-item.is)) in
     let vs = item_visits f ms path d.item in
-    let passed : first_failing (visit_checks ms c.loop-k.count vs) ≡ None =
-    ap (λ a. first_failing (visit_checks ms c.loop-k.count (item_visits (visits (c.args.deep - 1) ms a) ms path d.item))) (sym c.loop-k.invariant.above) ∙ c.in-Ok-item_visited.ensures.counts.0 in
-    let more : c.in-Ok-item_visited.more ≡ visit_count c.loop-k.count vs =
-    c.in-Ok-item_visited.ensures.counts.1 ∙ ap (λ a. visit_count c.loop-k.count (item_visits (visits (c.args.deep - 1) ms a) ms path d.item)) c.loop-k.invariant.above in
+    let passed : first_failing (visit_checks ms c.loop-declaration.count vs) ≡ None =
+    ap (λ a. first_failing (visit_checks ms c.loop-declaration.count (item_visits (visits (c.args.deep - 1) ms a) ms path d.item))) (sym c.loop-declaration.invariant.above) ∙ c.in-Ok-item_visited.ensures.counts.0 in
+    let more : c.in-Ok-item_visited.more ≡ visit_count c.loop-declaration.count vs =
+    c.in-Ok-item_visited.ensures.counts.1 ∙ ap (λ a. visit_count c.loop-declaration.count (item_visits (visits (c.args.deep - 1) ms a) ms path d.item)) c.loop-declaration.invariant.above in
     record {
-      above = ap names_above c.in-Ok-item_visited.ensures.same ∙ c.loop-k.invariant.above;
-      kept = ap (take (length c.args.above.now.items)) c.in-Ok-item_visited.ensures.same ∙ c.loop-k.invariant.kept;
-      checks = goes_on ms c.loop-k.count c.in-Ok-item_visited.more vs (declared_visits f ms path rest) passed more
-          ∙ ap (λ l. first_failing (visit_checks ms c.loop-k.count (declared_visits f ms path l))) (sym front) ∙ c.loop-k.invariant.checks;
-      count = ap (λ m. visit_count m (declared_visits f ms path rest)) more ∙ sym (count_append c.loop-k.count vs (declared_visits f ms path rest))
-          ∙ ap (λ l. visit_count c.loop-k.count (declared_visits f ms path l)) (sym front) ∙ c.loop-k.invariant.count;
+      above = ap names_above c.in-Ok-item_visited.ensures.same ∙ c.loop-declaration.invariant.above;
+      kept = ap (take (length c.args.above.now.items)) c.in-Ok-item_visited.ensures.same ∙ c.loop-declaration.invariant.kept;
+      checks = goes_on ms c.loop-declaration.count c.in-Ok-item_visited.more vs (declared_visits f ms path rest) passed more
+          ∙ ap (λ l. first_failing (visit_checks ms c.loop-declaration.count (declared_visits f ms path l))) (sym front) ∙ c.loop-declaration.invariant.checks;
+      count = ap (λ m. visit_count m (declared_visits f ms path rest)) more ∙ sym (count_append c.loop-declaration.count vs (declared_visits f ms path rest))
+          ∙ ap (λ l. visit_count c.loop-declaration.count (declared_visits f ms path l)) (sym front) ∙ c.loop-declaration.invariant.count;
     }
 
 pub visited-returns-clause-same : goal.visited-returns-clause-same
-visited-returns-clause-same t c = c.truncate.ensures.items ∙ ap (λ n. take n c.loop-k.above.items) (c.len-depth.ensures ∙ c.args.above.now.ok.0) ∙ c.loop-k.invariant.kept
+visited-returns-clause-same t c = c.truncate.ensures.items ∙ ap (λ n. take n c.loop-declaration.above.items) (c.len-depth.ensures ∙ c.args.above.now.ok.0) ∙ c.loop-declaration.invariant.kept

@@ -11,10 +11,10 @@ decreases-visited l = 2 * l.deep
 abbrev pub decreases-item_visited : goal.decreases-item_visited
 decreases-item_visited l = 2 * l.deep + 1
 
-abbrev pub invariant-visited-loop-k : goal.invariant-visited-loop-k
-invariant-visited-loop-k l = record {
+abbrev pub invariant-visited-loop-declaration : goal.invariant-visited-loop-declaration
+invariant-visited-loop-declaration l = record {
   above : names_above l.above.items ≡ l.own.name ∷ names_above l.fn.above.items;
   kept : take (length l.fn.above.items) l.above.items ≡ l.fn.above.items;
-  checks : first_failing (visit_checks (map plain_module l.modules) l.count (declared_visits (visits (l.deep - 1) (map plain_module l.modules) (l.own.name ∷ names_above l.fn.above.items)) (map plain_module l.modules) l.path (map declared_plain (drop l.k l.list)))) ≡ first_failing (visit_checks (map plain_module l.modules) l.fn.met (visits l.deep (map plain_module l.modules) (names_above l.fn.above.items) l.path (plain_module l.own)));
-  count : visit_count l.count (declared_visits (visits (l.deep - 1) (map plain_module l.modules) (l.own.name ∷ names_above l.fn.above.items)) (map plain_module l.modules) l.path (map declared_plain (drop l.k l.list))) ≡ visit_count l.fn.met (visits l.deep (map plain_module l.modules) (names_above l.fn.above.items) l.path (plain_module l.own));
+  checks : first_failing (visit_checks (map plain_module l.modules) l.count (declared_visits (visits (l.deep - 1) (map plain_module l.modules) (l.own.name ∷ names_above l.fn.above.items)) (map plain_module l.modules) l.path (map declared_plain (drop l.declaration-index l.list)))) ≡ first_failing (visit_checks (map plain_module l.modules) l.fn.met (visits l.deep (map plain_module l.modules) (names_above l.fn.above.items) l.path (plain_module l.own)));
+  count : visit_count l.count (declared_visits (visits (l.deep - 1) (map plain_module l.modules) (l.own.name ∷ names_above l.fn.above.items)) (map plain_module l.modules) l.path (map declared_plain (drop l.declaration-index l.list))) ≡ visit_count l.fn.met (visits l.deep (map plain_module l.modules) (names_above l.fn.above.items) l.path (plain_module l.own));
 }

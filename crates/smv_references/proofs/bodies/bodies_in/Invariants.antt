@@ -7,5 +7,5 @@ use Rattle.smv_references.proofs.bodies.bodies_in.Given as goal
 
 abbrev pub invariant-loop-i : goal.invariant-loop-i
 invariant-loop-i l =
-    map body_plain l.bodies.items ++ over_instances bodies_here l.i (map instance_plain (drop l.i l.table))
+    map body_plain l.bodies.items ++ over_instances bodies_here l.i (map instance_plain (drop l.i l.at-items))
     ≡ placed_bodies (map instance_plain l.table)

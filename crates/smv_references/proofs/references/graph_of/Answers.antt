@@ -12,4 +12,4 @@ row_of-requires c = λ i x. c.in_ok-numbers.ensures i x ∙ ap (λ ks. number_in
 pub returns : goal.returns
 returns c =
     let t = map instance_plain c.args.table.now in
-    c.loop-k.invariant ∙ ap (λ fs. map (references_of t) (map key_of fs)) (take_all c.loop-k.k c.args.bodies.now c.loop-k-test.false) ∙ ap (map (references_of t)) (keys_are c.args.bodies.now t c.requires)
+    c.loop-body.invariant ∙ ap (λ fs. map (references_of t) (map key_of fs)) (take_all c.loop-body.body-index c.args.bodies.now c.loop-body-test.false) ∙ ap (map (references_of t)) (keys_are c.args.bodies.now t c.requires)

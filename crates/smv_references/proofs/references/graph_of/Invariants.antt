@@ -4,5 +4,5 @@ use Rattle.smv_instances.specs.View.{instance_plain}
 use Rattle.smv_references.specs.View.{key_of}
 use Rattle.smv_references.proofs.references.graph_of.Given as goal
 
-abbrev pub invariant-loop-k : goal.invariant-loop-k
-invariant-loop-k l = l.graph ≡ map (references_of (map instance_plain l.table)) (map key_of (take l.k l.bodies))
+abbrev pub invariant-loop-body : goal.invariant-loop-body
+invariant-loop-body l = l.graph ≡ map (references_of (map instance_plain l.table)) (map key_of (take l.body-index l.bodies))

@@ -1,5 +1,5 @@
-use Rattle.std.proofs.Common.{◌≡◌, true, [], ◌∷◌, inr, List, Option, map, sym, ◌∙◌, subst}
-use Rattle.std.proofs.lemmas.List.{nil_from_length}
+use Rattle.std.proofs.Common.{◌≡◌, ◌+◌, true, ◌∷◌, inr, List, Option, drop, map, length, refl, sym, ◌∙◌, subst}
+use Rattle.smv_meaning.specs.laws.Lists.{front_is, end_is}
 use Rattle.std.specs.Borrow.{Bor}
 use Rattle.std.specs.List.{AllByRecursion}
 use Rattle.digraph.specs.Graph.{are_distinct}
@@ -16,23 +16,24 @@ pub add_formula-requires : goal.add_formula-requires
 add_formula-requires c =
     let inv = c.loop-formula.invariant in
     let kinds = map (λ m. m.kind) c.args.items.now in
-    let held : AllByRecursion (FormHolds kinds) (map form_plain (c.in-Some.formula.now ∷ c.in-Some.more.now)) =
-    subst (λ (fs : List FlatFormula). AllByRecursion (FormHolds kinds) (map form_plain fs)) c.in-Some.ensures.cases.0 inv.held in
-    let free : RestIsFree c.loop-formula.bodies.items (map form_plain (c.in-Some.formula.now ∷ c.in-Some.more.now)) =
-    subst (λ (fs : List FlatFormula). RestIsFree c.loop-formula.bodies.items (map form_plain fs)) c.in-Some.ensures.cases.0 inv.free in
-    can_add c.args.items.now c.loop-formula.bodies.items (form_plain c.in-Some.formula.now).role (body_numbers (map form_plain c.in-Some.more.now)) inv.size held.0 free
+    let split = front_is c.args.formulas.now c.loop-formula.formula-index (length c.args.formulas.now) c.formula-item.result refl c.loop-formula-test.true c.formula-item.is in
+    let held : AllByRecursion (FormHolds kinds) (map form_plain (c.formula-item.result ∷ (drop (c.loop-formula.formula-index + 1) c.args.formulas.now))) =
+    subst (λ (fs : List FlatFormula). AllByRecursion (FormHolds kinds) (map form_plain fs)) split inv.held in
+    let free : RestIsFree c.loop-formula.bodies.items (map form_plain (c.formula-item.result ∷ (drop (c.loop-formula.formula-index + 1) c.args.formulas.now))) =
+    subst (λ (fs : List FlatFormula). RestIsFree c.loop-formula.bodies.items (map form_plain fs)) split inv.free in
+    can_add c.args.items.now c.loop-formula.bodies.items (form_plain c.formula-item.result).role (body_numbers (map form_plain (drop (c.loop-formula.formula-index + 1) c.args.formulas.now))) inv.size held.0 free
 
 pub loop-formula-preserved : goal.loop-formula-preserved
 loop-formula-preserved c =
     let old = c.loop-formula.bodies.items in
     let new = c.add_formula.new.bodies.items in
     let all = map form_plain c.args.formulas.now in
-    let f = form_plain c.in-Some.formula.now in
-    let fs = map form_plain c.in-Some.more.now in
+    let f = form_plain c.formula-item.result in
+    let fs = map form_plain (drop (c.loop-formula.formula-index + 1) c.args.formulas.now) in
     let a = c.add_formula.ensures in
     let inv = c.loop-formula.invariant in
     let kinds = map (λ m. m.kind) c.args.items.now in
-    let split = c.in-Some.ensures.cases.0 in
+    let split = front_is c.args.formulas.now c.loop-formula.formula-index (length c.args.formulas.now) c.formula-item.result refl c.loop-formula-test.true c.formula-item.is in
     let held : AllByRecursion (FormHolds kinds) (f ∷ fs) = subst (λ (xs : List FlatFormula). AllByRecursion (FormHolds kinds) (map form_plain xs)) split inv.held in
     let apart : are_distinct (body_numbers (f ∷ fs)) ≡ true = subst (λ (xs : List FlatFormula). are_distinct (body_numbers (map form_plain xs)) ≡ true) split inv.apart in
     let among : AmongAll (f ∷ fs) all = subst (λ (xs : List FlatFormula). AmongAll (map form_plain xs) all) split inv.among in
@@ -50,7 +51,7 @@ loop-formula-preserved c =
 
 pub returns : goal.returns
 returns c =
-    let end : c.loop-formula.rest.now ≡ [] = nil_from_length c.loop-formula.rest.now c.in_default.ensures.cases in
+    let end = end_is c.args.formulas.now c.loop-formula.formula-index (length c.args.formulas.now) refl c.loop-formula-test.false in
     let inv = c.loop-formula.invariant in
     record {
       size = inv.size;

@@ -1,4 +1,4 @@
-use Rattle.std.proofs.Common.{◌≡◌, true, List, Option, map, length}
+use Rattle.std.proofs.Common.{◌≡◌, true, List, Option, drop, map, length}
 use Rattle.std.specs.Borrow.{Bor}
 use Rattle.std.specs.List.{AllByRecursion}
 use Rattle.digraph.specs.Graph.{are_distinct}
@@ -13,13 +13,10 @@ use Rattle.smv_rows.proofs.bodies.bodies_of.Given as goal
 abbrev pub invariant-loop-formula : goal.invariant-loop-formula
 invariant-loop-formula l = record {
   size : length l.bodies.items ≡ length l.items;
-  held : AllByRecursion (FormHolds (map (λ m. m.kind) l.items)) (map form_plain l.rest);
-  apart : are_distinct (body_numbers (map form_plain l.rest)) ≡ true;
-  free : RestIsFree l.bodies.items (map form_plain l.rest);
-  among : AmongAll (map form_plain l.rest) (map form_plain l.fn.formulas);
-  only : ComeFrom (bodies_in l.bodies.items) (map form_plain l.fn.formulas);
-  have : (later : List (Option (Bor FlatExpr))) → Extends (bodies_in l.bodies.items) (bodies_in later) → HaveBodies (bodies_in later) (map form_plain l.rest) → HaveBodies (bodies_in later) (map form_plain l.fn.formulas);
+  held : AllByRecursion (FormHolds (map (λ m. m.kind) l.items)) (map form_plain (drop l.formula-index l.formulas));
+  apart : are_distinct (body_numbers (map form_plain (drop l.formula-index l.formulas))) ≡ true;
+  free : RestIsFree l.bodies.items (map form_plain (drop l.formula-index l.formulas));
+  among : AmongAll (map form_plain (drop l.formula-index l.formulas)) (map form_plain l.formulas);
+  only : ComeFrom (bodies_in l.bodies.items) (map form_plain l.formulas);
+  have : (later : List (Option (Bor FlatExpr))) → Extends (bodies_in l.bodies.items) (bodies_in later) → HaveBodies (bodies_in later) (map form_plain (drop l.formula-index l.formulas)) → HaveBodies (bodies_in later) (map form_plain l.formulas);
 }
-
-abbrev pub decreases-loop-formula : goal.decreases-loop-formula
-decreases-loop-formula l = length l.rest

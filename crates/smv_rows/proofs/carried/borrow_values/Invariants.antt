@@ -1,9 +1,6 @@
-use Rattle.std.proofs.Common.{◌≡◌, ◌++◌, length, map}
+use Rattle.std.proofs.Common.{◌≡◌, ◌++◌, drop, map}
 use Rattle.smv_operators.specs.View.{seen_value}
 use Rattle.smv_rows.proofs.carried.borrow_values.Given as goal
 
 abbrev pub invariant-loop-value : goal.invariant-loop-value
-invariant-loop-value l = map seen_value l.values.items ++ l.rest ≡ l.from
-
-abbrev pub decreases-loop-value : goal.decreases-loop-value
-decreases-loop-value l = length l.rest
+invariant-loop-value l = map seen_value l.values.items ++ (drop l.value-index l.from) ≡ l.from

@@ -1,10 +1,7 @@
-use Rattle.std.proofs.Common.{◌≡◌, length, map}
+use Rattle.std.proofs.Common.{◌≡◌, drop, map}
 use Rattle.smv_operators.specs.View.{seen_value}
 use Rattle.smv_rows.specs.Numbered.{set_by}
 use Rattle.smv_rows.proofs.carried.carry_changes.Given as goal
 
 abbrev pub invariant-loop-change : goal.invariant-loop-change
-invariant-loop-change l = set_by (map seen_value l.values.items) l.rest ≡ set_by (map seen_value l.fn.values.items) l.fn.changes
-
-abbrev pub decreases-loop-change : goal.decreases-loop-change
-decreases-loop-change l = length l.rest
+invariant-loop-change l = set_by (map seen_value l.values.items) (drop l.change-index l.changes) ≡ set_by (map seen_value l.fn.values.items) l.changes
