@@ -120,8 +120,7 @@ pub(crate) fn numbers_of(alloc: Global, nodes: &Nodes) -> Result<Vec<u32>, NoMem
         locals: inputs + states,
     };
     let mut all = Vec::with_capacity(alloc, count)?;
-    for i in 0..count {
-        let line = nodes.at(i);
+    for line in nodes.as_slice() {
         all.push(number_in(counts, &line.op))?;
         counts = counted_on(counts, &line.op);
     }

@@ -69,8 +69,7 @@ fn reachables_of(alloc: Global, nodes: &Nodes, numbers: &[u32]) -> Result<Formul
     ensures { IfOk result (λ fs. map plain_formula fs ≡ reachables_from (number_at numbers.now) 0 (lines_in is_bad nodes.now)) }
 {
     let mut all = Formulas::new(alloc);
-    for i in 0..nodes.len() {
-        let line = nodes.at(i);
+    for line in nodes {
         if is_bad(&line.op) {
             let formula = reachable_of(alloc, numbers, all.len(), line)?;
             all.push(formula)?;
@@ -84,8 +83,8 @@ fn queries_of(alloc: Global, nodes: &Nodes) -> Result<Queries, NoMemory>
     ensures { IfOk result (λ qs. qs ≡ queries_from 0 (lines_in is_bad nodes.now)) }
 {
     let mut all = Queries::new(alloc);
-    for i in 0..nodes.len() {
-        if is_bad(&nodes.at(i).op) {
+    for line in nodes {
+        if is_bad(&line.op) {
             let query = query_of(alloc, all.len())?;
             all.push(query)?;
         }
@@ -109,9 +108,8 @@ fn variables_again(alloc: Global, variables: &Variables) -> Result<Variables, No
     ensures { IfOk result (λ vs. vs ≡ variables.now) }
 {
     let mut all = Variables::with_capacity(alloc, variables.len())?;
-    for i in 0..variables.len() {
-        let variable = variable_again(alloc, variables.at(i))?;
-        all.push(variable)?;
+    for variable in variables {
+        all.push(variable_again(alloc, variable)?)?;
     }
     Ok(all)
 }

@@ -88,8 +88,8 @@ pub(crate) fn variables_in(
     ensures { IfOk result (λ vs. vs ≡ variables_in (group_letter group) (group_kind group) nodes.now) }
 {
     let mut all = Variables::new(alloc);
-    for i in 0..nodes.len() {
-        add_variable(alloc, nodes, group, nodes.at(i), &mut all)?;
+    for line in nodes {
+        add_variable(alloc, nodes, group, line, &mut all)?;
     }
     Ok(all)
 }

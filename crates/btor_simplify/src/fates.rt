@@ -266,8 +266,8 @@ pub fn fates_of(alloc: Global, nodes: &Nodes) -> Result<Vec<Outcome>, NoMemory>
 {
     let mut fates = Vec::new(alloc);
     let mut contents = BTreeMap::new(alloc);
-    for i in 0..nodes.len() {
-        let fate = fate_of(nodes, &fates, &mut contents, nodes.at(i))?;
+    for line in nodes.as_slice() {
+        let fate = fate_of(nodes, &fates, &mut contents, line)?;
         fates.push(fate)?;
     }
     Ok(fates)

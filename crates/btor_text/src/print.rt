@@ -312,9 +312,10 @@ pub fn print_btor(alloc: Global, nodes: &Nodes) -> Result<Text, NoMemory>
     ensures printed { IfOk result (λ text. text ≡ printed nodes.now) }
     ensures spells { IfOk result (λ text. SpellsLines text nodes.now) }
 {
+    nodes.are_well_formed();
     let mut out = Text::new(alloc);
-    for i in 0..nodes.len() {
-        put_line(&mut out, nodes, nodes.at(i))?;
+    for line in nodes {
+        put_line(&mut out, nodes, line)?;
     }
     Ok(out)
 }

@@ -33,9 +33,8 @@ fn lifted_steps(
     ensures { IfOk result (λ trace. trace ≡ map (λ (f : Frame). lifted_step scope.now.enumerations variables.now f.inputs) frames.now) }
 {
     let mut trace = MoxiTrace::new(alloc);
-    for i in 0..frames.len() {
-        let step = lifted_step(alloc, scope, variables, &frames.at(i).inputs)?;
-        trace.push(step)?;
+    for frame in frames {
+        trace.push(lifted_step(alloc, scope, variables, &frame.inputs)?)?;
     }
     Ok(trace)
 }

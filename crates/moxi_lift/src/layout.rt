@@ -12,9 +12,8 @@ use moxi_terms::Scope;
 fn have_codes(scope: &Scope)
     ensures { HaveCodes scope.now.enumerations }
 {
-    let enumerations = scope.enumerations();
-    for i in 0..enumerations.len() {
-        let _count = enumerations.at(i).constants.len();
+    for enumeration in scope.enumerations() {
+        let _count = enumeration.constants.len();
     }
 }
 

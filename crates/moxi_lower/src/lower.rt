@@ -74,9 +74,8 @@ fn lowered_steps(
     ensures { IfOk result (λ frames. frames ≡ map (lowered_step scope.now.enumerations (length variables.now)) trace.now) }
 {
     let mut frames = FrameList::with_capacity(alloc, trace.len())?;
-    for i in 0..trace.len() {
-        let frame = lowered_step(alloc, scope, variables, trace.at(i))?;
-        frames.push(frame)?;
+    for step in trace {
+        frames.push(lowered_step(alloc, scope, variables, step)?)?;
     }
     Ok(frames)
 }

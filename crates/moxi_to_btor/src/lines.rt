@@ -31,12 +31,10 @@ fn symbol_bytes(alloc: Global, name: &[u8]) -> Result<Vec<u8>, NoMemory>
 fn is_plain(name: &[u8]) -> bool
     ensures { result ≡ true → map symbol_byte name.now ≡ name.now }
 {
-    let mut rest = name;
-    while let Some((byte, more)) = rest.split_first() {
+    for byte in name {
         if symbol_byte(*byte) != *byte {
             return false;
         }
-        rest = more;
     }
     true
 }

@@ -80,7 +80,15 @@ pub(crate) fn visited<'a>(
     };
     let list = own.declarations();
     for declaration in list {
-        match item_visited(alloc, modules, deep - 1, above, path, declaration.item, count) {
+        match item_visited(
+            alloc,
+            modules,
+            deep - 1,
+            above,
+            path,
+            declaration.item,
+            count,
+        ) {
             Ok(more) => count = more,
             Err(end) => return Err(end),
         }

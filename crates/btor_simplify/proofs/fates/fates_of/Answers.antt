@@ -1,5 +1,6 @@
-use Rattle.std.proofs.Common.{◌≡◌, sym, ap, subst, ◌∙◌, length, [], ◌∷◌, ◌++◌}
+use Rattle.std.proofs.Common.{◌≡◌, refl, sym, ap, subst, ◌∙◌, length, [], ◌∷◌, ◌++◌}
 use Rattle.std.specs.Prelude.{slice_get, Some}
+use Rattle.std.proofs.lemmas.Option.{slice_get_read}
 use Rattle.std.specs.BTreeMap.{is_at}
 use Rattle.std.specs.Map.{lookup}
 use Rattle.btor_simplify.specs.Contents.{content_cmp}
@@ -7,8 +8,8 @@ use Rattle.btor_simplify.specs.Fates.{AreFates, HasContents, IsFate, KeepsWidth}
 use Rattle.btor_simplify.proofs.Pushes.{fates_push, no_fates, no_contents, one_longer}
 use Rattle.btor_simplify.proofs.fates.fates_of.Goals as goal
 
-pub loop-i-init : goal.loop-i-init
-loop-i-init c =
+pub loop-line-init : goal.loop-line-init
+loop-line-init c =
     let none = c.new-fates.ensures.items in
     record {
       known = subst (AreFates c.args.nodes.now) (sym none) (no_fates c.args.nodes.now);
@@ -16,20 +17,20 @@ loop-i-init c =
       long = ap length none;
     }
 
-pub loop-i-preserved : goal.loop-i-preserved
-loop-i-preserved c =
+pub loop-line-preserved : goal.loop-line-preserved
+loop-line-preserved c =
     let lines = c.args.nodes.now in
-    let fates = c.loop-i.fates.items in
-    let l = c.at.result.now in
+    let fates = c.loop-line.fates.items in
+    let l = c.line-item.result in
     let f = c.in_ok-fate.fate in
     let v = c.deref.ensures.value in
     let more = c.in_ok-push.ensures.items in
-    let at : slice_get lines (length fates) ≡ Some l = ap (slice_get lines) c.loop-i.invariant.long ∙ c.at.ensures in
+    let at : slice_get lines (length fates) ≡ Some l = ap (slice_get lines) c.loop-line.invariant.long ∙ c.at.ensures in
     let fate = subst (λ fs. IsFate lines fs l f) v c.in_ok-fate.ensures.fate in
     let keeps = subst (λ fs. KeepsWidth lines fs (length fs) f) v c.in_ok-fate.ensures.width in
     let has = subst (λ fs. HasContents lines (fs ++ f ∷ []) c.fate_of.new.contents) v c.in_ok-fate.ensures.has in
     record {
-      known = subst (AreFates lines) (sym more) (fates_push lines fates f l c.loop-i.invariant.known at fate keeps);
+      known = subst (AreFates lines) (sym more) (fates_push lines fates f l c.loop-line.invariant.known at fate keeps);
       has = subst (λ fs. HasContents lines fs c.fate_of.new.contents) (sym more) has;
-      long = ap length more ∙ one_longer fates f c.loop-i.i c.loop-i.invariant.long;
+      long = ap length more ∙ one_longer fates f c.loop-line.line-index c.loop-line.invariant.long;
     }
