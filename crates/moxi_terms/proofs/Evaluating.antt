@@ -1,5 +1,5 @@
 -- What an evaluation of a term asks for gives what those of its parts ask for.
-use Rattle.std.proofs.Common.{◌≡◌, ℕ, ◌<◌, ◌≤◌, ◌++◌, List, [], ◌∷◌, length, take, map, Option, None, Some, sym, ap, ◌∙◌, subst, arith}
+use Rattle.std.proofs.Common.{◌≡◌, ℕ, ◌<◌, ◌≤◌, ◌++◌, List, [], ◌∷◌, length, take, map, Option, None, Some, sym, ap, ◌∙◌, subst, arith, refl}
 use Rattle.moxi_terms.specs.declared.data.Sort.{Sort}
 use Rattle.moxi_terms.specs.declared.data.Datum.{Datum}
 use Rattle.moxi_terms.specs.declared.data.TermOp.{TermOp}
@@ -7,7 +7,8 @@ use Rattle.moxi_terms.specs.declared.term.Enumeration.{Enumeration}
 use Rattle.moxi_terms.specs.Applied.{CanApply}
 use Rattle.moxi_terms.specs.Sorts.{Fit}
 use Rattle.moxi_terms.specs.Sorted.{HasSort, HaveSorts, IsScope, IsReady, FitLater}
-use Rattle.moxi_terms.specs.Tree.{Tree, apply, binding, call, Trees, tree, PlainFunction, sorts_of}
+use Rattle.moxi_terms.specs.Applications.{one, two}
+use Rattle.moxi_terms.specs.Tree.{Tree, apply, binding, call, Trees, no_trees, tree, PlainFunction, sorts_of}
 use Rattle.moxi_terms.specs.Value.{at, term_value, term_values, calls_upto, later_of}
 use Rattle.std.specs.Borrow.{Bor}
 use Rattle.std.proofs.lemmas.List.{length-map, take_all}
@@ -117,6 +118,19 @@ module _ (fs : List PlainFunction) (k : ℕ) (now later bound_now : List Datum) 
         fit_bound = c.fit_bound;
         sorted = h.3;
       }
+
+  -- the terms of an application
+  apply_all : (o : TermOp) (ts : Trees) → CanEvaluate fs k now later bound_now (apply o ts) → CanEvaluateAll fs k now later bound_now ts
+  apply_all o ts c = all_of ts c.sorted.0 (apply o ts) c c.sorted.1
+
+  pub first_of_two : (o : TermOp) (a b : Tree) → CanEvaluate fs k now later bound_now (apply o (two a b)) → CanEvaluate fs k now later bound_now a
+  first_of_two o a b c = first_can (two a b) a (one b) (apply_all o (two a b) c) refl
+
+  pub second_of_two : (o : TermOp) (a b : Tree) → CanEvaluate fs k now later bound_now (apply o (two a b)) → CanEvaluate fs k now later bound_now b
+  second_of_two o a b c = first_can (one b) b no_trees (rest_can (two a b) a (one b) (apply_all o (two a b) c) refl) refl
+
+pub both : {x y v w : Datum} → x ≡ v → y ≡ w → (x ∷ y ∷ []) ≡ (v ∷ w ∷ [])
+both {x} {y} {v} {w} e f = ap (λ d. d ∷ y ∷ []) e ∙ ap (λ d. v ∷ d ∷ []) f
 
 -- a function's body may be evaluated under its arguments
 pub body_can : (fs : List PlainFunction) (k n : ℕ) (args : List Datum) (body : Tree) (c : CanCall fs k n args) → c.function.body ≡ body → CanEvaluate fs n args args [] body

@@ -3,12 +3,13 @@ ghost use Rattle.std.specs.Prelude.{◌≡◌, ◌++◌, ◌∷◌, [], map, len
 ghost use Rattle.moxi_terms.specs.declared.data.Sort.{Sort};
 ghost use Rattle.moxi_terms.specs.Sorted.{HasSort, IsReady, IsScope};
 ghost use Rattle.moxi_terms.specs.Sorts.{Fit, IsOf};
-ghost use Rattle.moxi_terms.specs.Tree.{Tree, trees_of};
+ghost use Rattle.moxi_terms.specs.Applications.{one, two};
+ghost use Rattle.moxi_terms.specs.Tree.{Tree, apply, trees_of};
 ghost use Rattle.moxi_terms.specs.Value.{at, calls_upto, later_of, term_value};
 ghost use Rattle.moxi_terms.specs.Evaluated.{CanCall, CanEvaluate, CanEvaluateAll, value_upto, values_in, values_upto};
 ghost use Rattle.moxi_terms.specs.View.{ScopeState, plain, plain_function};
 
-use crate::data::Datum;
+use crate::data::{Datum, TermOp};
 use crate::operate::operate;
 use crate::scope::Scope;
 use crate::term::{Env, Function, Term};
@@ -75,7 +76,7 @@ pub fn eval(
         later: later_valuation(now, later),
     };
     let mut bound = Vec::new(alloc);
-    value(alloc, scene, &mut bound, term)
+    value(alloc, &scene, &mut bound, term)
 }
 
 fn later_valuation<'a>(now: &'a Env, later: Option<&'a Env>) -> Valuation<'a>
@@ -89,9 +90,9 @@ fn later_valuation<'a>(now: &'a Env, later: Option<&'a Env>) -> Valuation<'a>
 
 #[cycle(value)]
 #[inline(never)]
-fn value(alloc: Global, scene: Scene, bound: &mut Vec<Datum>, t: &Term) -> Result<Datum, NoMemory>
-    requires { CanEvaluate (map plain_function scene.functions.now) scene.upto (values_in scene.now) (values_in scene.later) bound.old.items (plain t.now) }
-    ensures value { IfOk result (λ d. d ≡ value_upto (map plain_function scene.entry.functions.now) scene.entry.upto scene.entry.now scene.entry.later bound.old.items (plain t.now)) }
+fn value(alloc: Global, scene: &Scene, bound: &mut Vec<Datum>, t: &Term) -> Result<Datum, NoMemory>
+    requires { CanEvaluate (map plain_function scene.now.functions.now) scene.now.upto (values_in scene.now.now) (values_in scene.now.later) bound.old.items (plain t.now) }
+    ensures value { IfOk result (λ d. d ≡ value_upto (map plain_function scene.entry.now.functions.now) scene.entry.now.upto scene.entry.now.now scene.entry.now.later bound.old.items (plain t.now)) }
     ensures kept { OnOk result (bound.new.items ≡ bound.old.items) }
 {
     match t {
@@ -102,10 +103,14 @@ fn value(alloc: Global, scene: Scene, bound: &mut Vec<Datum>, t: &Term) -> Resul
             value_at(scene.now, *v)
         }),
         Term::Bound(i) => Ok(bound_at(bound, *i)),
-        Term::Apply(op, terms) => {
-            let args = values(alloc, scene, bound, terms)?;
-            Ok(operate(*op, &args))
-        }
+        Term::Apply(op, terms) => match terms.as_slice() {
+            [a] => applied_to_one(alloc, scene, bound, *op, a),
+            [a, b] => applied_to_two(alloc, scene, bound, *op, a, b),
+            all => {
+                let args = values(alloc, scene, bound, all)?;
+                Ok(operate(*op, &args))
+            }
+        },
         Term::Let(_, terms, body) => {
             let more = values(alloc, scene, bound, terms)?;
             inner_value(alloc, scene, bound, &more, body)
@@ -117,18 +122,56 @@ fn value(alloc: Global, scene: Scene, bound: &mut Vec<Datum>, t: &Term) -> Resul
     }
 }
 
+// The value of an operator on one term.
+#[cycle(value)]
+#[inline(never)]
+fn applied_to_one(
+    alloc: Global,
+    scene: &Scene,
+    bound: &mut Vec<Datum>,
+    op: TermOp,
+    a: &Term,
+) -> Result<Datum, NoMemory>
+    requires { CanEvaluate (map plain_function scene.now.functions.now) scene.now.upto (values_in scene.now.now) (values_in scene.now.later) bound.old.items (apply op (one (plain a.now))) }
+    ensures value { IfOk result (λ d. d ≡ value_upto (map plain_function scene.entry.now.functions.now) scene.entry.now.upto scene.entry.now.now scene.entry.now.later bound.old.items (apply op (one (plain a.now)))) }
+    ensures kept { OnOk result (bound.new.items ≡ bound.old.items) }
+{
+    let x = value(alloc, scene, bound, a)?;
+    Ok(operate(op, &[x]))
+}
+
+// The value of an operator on two terms.
+#[cycle(value)]
+#[inline(never)]
+fn applied_to_two(
+    alloc: Global,
+    scene: &Scene,
+    bound: &mut Vec<Datum>,
+    op: TermOp,
+    a: &Term,
+    b: &Term,
+) -> Result<Datum, NoMemory>
+    requires { CanEvaluate (map plain_function scene.now.functions.now) scene.now.upto (values_in scene.now.now) (values_in scene.now.later) bound.old.items (apply op (two (plain a.now) (plain b.now))) }
+    ensures value { IfOk result (λ d. d ≡ value_upto (map plain_function scene.entry.now.functions.now) scene.entry.now.upto scene.entry.now.now scene.entry.now.later bound.old.items (apply op (two (plain a.now) (plain b.now)))) }
+    ensures kept { OnOk result (bound.new.items ≡ bound.old.items) }
+{
+    let x = value(alloc, scene, bound, a)?;
+    let y = value(alloc, scene, bound, b)?;
+    Ok(operate(op, &[x, y]))
+}
+
 // The value of a term with these additional values bound.
 #[cycle(value)]
 #[inline(never)]
 fn inner_value(
     alloc: Global,
-    scene: Scene,
+    scene: &Scene,
     bound: &mut Vec<Datum>,
     more: &[Datum],
     t: &Term,
 ) -> Result<Datum, NoMemory>
-    requires { CanEvaluate (map plain_function scene.functions.now) scene.upto (values_in scene.now) (values_in scene.later) (bound.old.items ++ more.now) (plain t.now) }
-    ensures value { IfOk result (λ d. d ≡ value_upto (map plain_function scene.entry.functions.now) scene.entry.upto scene.entry.now scene.entry.later (bound.old.items ++ more.now) (plain t.now)) }
+    requires { CanEvaluate (map plain_function scene.now.functions.now) scene.now.upto (values_in scene.now.now) (values_in scene.now.later) (bound.old.items ++ more.now) (plain t.now) }
+    ensures value { IfOk result (λ d. d ≡ value_upto (map plain_function scene.entry.now.functions.now) scene.entry.now.upto scene.entry.now.now scene.entry.now.later (bound.old.items ++ more.now) (plain t.now)) }
     ensures kept { OnOk result (bound.new.items ≡ bound.old.items) }
 {
     let before = bound.len();
@@ -165,7 +208,7 @@ fn call(
         later: Valuation::Arguments(args),
     };
     let mut bound = Vec::new(alloc);
-    value(alloc, scene, &mut bound, &functions.at(number).body)
+    value(alloc, &scene, &mut bound, &functions.at(number).body)
 }
 
 // The values of terms.
@@ -173,12 +216,12 @@ fn call(
 #[inline(never)]
 fn values(
     alloc: Global,
-    scene: Scene,
+    scene: &Scene,
     bound: &mut Vec<Datum>,
     terms: &[Term],
 ) -> Result<Vec<Datum>, NoMemory>
-    requires { CanEvaluateAll (map plain_function scene.functions.now) scene.upto (values_in scene.now) (values_in scene.later) bound.old.items (trees_of (map plain terms.now)) }
-    ensures values { IfOk result (λ all. all.items ≡ values_upto (map plain_function scene.entry.functions.now) scene.entry.upto scene.entry.now scene.entry.later bound.old.items (trees_of (map plain terms.now))) }
+    requires { CanEvaluateAll (map plain_function scene.now.functions.now) scene.now.upto (values_in scene.now.now) (values_in scene.now.later) bound.old.items (trees_of (map plain terms.now)) }
+    ensures values { IfOk result (λ all. all.items ≡ values_upto (map plain_function scene.entry.now.functions.now) scene.entry.now.upto scene.entry.now.now scene.entry.now.later bound.old.items (trees_of (map plain terms.now))) }
     ensures kept { OnOk result (bound.new.items ≡ bound.old.items) }
 {
     let mut all = Vec::new(alloc);

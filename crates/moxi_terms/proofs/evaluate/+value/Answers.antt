@@ -1,40 +1,95 @@
 use Rattle.std.proofs.lemmas.List.{length-map}
-use Rattle.std.proofs.Common.{◌≡◌, ◌<◌, [], ◌∷◌, ◌++◌, ◌+◌, length, map, drop, slice_index_or, sym, ap, ◌∙◌, subst, arith, append_assoc}
+use Rattle.std.proofs.Common.{◌≡◌, ◌<◌, [], ◌∷◌, ◌++◌, ◌+◌, length, map, drop, slice_index_or, sym, ap, ◌∙◌, subst, arith, append_assoc, refl}
 use Rattle.moxi_terms.specs.Operators.{op_value}
-use Rattle.moxi_terms.specs.Tree.{trees_of}
+use Rattle.moxi_terms.specs.Applications.{one, two}
+use Rattle.moxi_terms.specs.Tree.{apply, trees_of}
 use Rattle.moxi_terms.specs.View.{plain, plain_function}
 use Rattle.moxi_terms.specs.Value.{at, term_value, term_values, calls_upto}
 use Rattle.moxi_terms.specs.Cost.{cost, costs, cost_upto}
 use Rattle.moxi_terms.specs.Evaluated.{CanEvaluate, values_in}
 use Rattle.moxi_terms.proofs.Plain.{plain-Apply, plain-Let, plain-Call, terms_step, called, called_cost, body_of, found_within, if_ok_same}
 use Rattle.moxi_terms.proofs.ValueLaws.{taken_at, read_at}
-use Rattle.moxi_terms.proofs.Evaluating.{apply_can, let_body, call_can, first_can, rest_can, body_can}
+use Rattle.moxi_terms.proofs.Evaluating.{both, first_of_two, second_of_two, apply_can, let_body, call_can, first_can, rest_can, body_can}
 use Rattle.moxi_terms.proofs.evaluate.+value.Goals as goal
 
 pub value-operate-requires : goal.value-operate-requires
 value-operate-requires t c =
-    let s = c.args.scene in
+    let s = c.args.scene.now in
     let fs = map plain_function s.functions.now in
     let values = term_values (calls_upto fs s.upto) (at (values_in s.now)) (at (values_in s.later)) c.args.bound.now.items in
     let e = ap plain c.in-Apply.is ∙ plain-Apply c.in-Apply.op c.in-Apply.terms in
-    let got : c.in_ok-args-in-Apply.args.items ≡ values (trees_of (map plain c.deref-in-Apply.result.now)) = c.in_ok-args-in-Apply.ensures.values in
-    apply_can fs s.upto (values_in s.now) (values_in s.later) c.args.bound.now.items (plain c.args.t.now) c.in-Apply.op (trees_of (map plain c.in-Apply.terms.items)) c.deref-in-Apply-2.result.now c.requires e
-    (c.deref-in-Apply-2.ensures.value ∙ got ∙ ap (λ ts. values (trees_of (map plain ts))) c.deref-in-Apply.ensures.value)
+    let got : c.in_ok-args-in_default.args.items ≡ values (trees_of (map plain c.as_slice.result.now)) = c.in_ok-args-in_default.ensures.values in
+    apply_can fs s.upto (values_in s.now) (values_in s.later) c.args.bound.now.items (plain c.args.t.now) c.in-Apply.op (trees_of (map plain c.in-Apply.terms.items)) c.deref-in_default.result.now c.requires e
+    (c.deref-in_default.ensures.value ∙ got ∙ ap (λ ts. values (trees_of (map plain ts))) c.as_slice.ensures.value)
 
-pub value-returns-in_ok-args-in-Apply-clause-value : goal.value-returns-in_ok-args-in-Apply-clause-value
-value-returns-in_ok-args-in-Apply-clause-value t c =
-    let s = c.args.scene in
+pub value-returns-in_ok-args-in_default-clause-value : goal.value-returns-in_ok-args-in_default-clause-value
+value-returns-in_ok-args-in_default-clause-value t c =
+    let s = c.args.scene.now in
     let fs = map plain_function s.functions.now in
     let values = term_values (calls_upto fs s.upto) (at (values_in s.now)) (at (values_in s.later)) c.args.bound.now.items in
     let e = ap plain c.in-Apply.is ∙ plain-Apply c.in-Apply.op c.in-Apply.terms in
-    let got : c.in_ok-args-in-Apply.args.items ≡ values (trees_of (map plain c.deref-in-Apply.result.now)) = c.in_ok-args-in-Apply.ensures.values in
+    let got : c.in_ok-args-in_default.args.items ≡ values (trees_of (map plain c.as_slice.result.now)) = c.in_ok-args-in_default.ensures.values in
     c.operate.ensures
-    ∙ ap (op_value c.in-Apply.op) (c.deref-in-Apply-2.ensures.value ∙ got ∙ ap (λ ts. values (trees_of (map plain ts))) c.deref-in-Apply.ensures.value)
+    ∙ ap (op_value c.in-Apply.op) (c.deref-in_default.ensures.value ∙ got ∙ ap (λ ts. values (trees_of (map plain ts))) c.as_slice.ensures.value)
     ∙ sym (ap (term_value (calls_upto fs s.upto) (at (values_in s.now)) (at (values_in s.later)) c.args.bound.now.items) e)
+
+pub applied_to_one-operate-requires : goal.applied_to_one-operate-requires
+applied_to_one-operate-requires t c =
+    let s = c.args.scene.now in
+    let fs = map plain_function s.functions.now in
+    let a = one (plain c.args.a.now) in
+    apply_can fs s.upto (values_in s.now) (values_in s.later) c.args.bound.now.items (apply c.args.op a) c.args.op a (c.in_ok-x.x ∷ []) c.requires refl (ap (λ d. d ∷ []) c.in_ok-x.ensures.value)
+
+pub applied_to_two-value-requires : goal.applied_to_two-value-requires
+applied_to_two-value-requires t c =
+    let s = c.args.scene.now in
+    let fs = map plain_function s.functions.now in (
+      omega arith,
+      first_of_two fs s.upto (values_in s.now) (values_in s.later) c.args.bound.now.items c.args.op (plain c.args.a.now) (plain c.args.b.now) c.requires,
+    )
+
+pub applied_to_two-value-requires-2 : goal.applied_to_two-value-requires-2
+applied_to_two-value-requires-2 t c =
+    let s = c.args.scene.now in
+    let fs = map plain_function s.functions.now in
+    let b = plain c.args.b.now in
+    let kept : c.value.new.bound.items ≡ c.args.bound.now.items = c.in_ok-x.ensures.kept in
+    let can = second_of_two fs s.upto (values_in s.now) (values_in s.later) c.args.bound.now.items c.args.op (plain c.args.a.now) b c.requires in (
+      omega arith,
+      subst (λ bound. CanEvaluate fs s.upto (values_in s.now) (values_in s.later) bound b) (sym kept) can,
+    )
+
+pub applied_to_two-operate-requires : goal.applied_to_two-operate-requires
+applied_to_two-operate-requires t c =
+    let s = c.args.scene.now in
+    let fs = map plain_function s.functions.now in
+    let old = c.args.bound.now.items in
+    let value = term_value (calls_upto fs s.upto) (at (values_in s.now)) (at (values_in s.later)) in
+    let a = plain c.args.a.now in
+    let b = plain c.args.b.now in
+    let kept : c.value.new.bound.items ≡ old = c.in_ok-x.ensures.kept in
+    let x : c.in_ok-x.x ≡ value old a = c.in_ok-x.ensures.value in
+    let got : c.in_ok-y.y ≡ value c.value.new.bound.items b = c.in_ok-y.ensures.value in
+    let y = got ∙ ap (λ bound. value bound b) kept in
+    apply_can fs s.upto (values_in s.now) (values_in s.later) old (apply c.args.op (two a b)) c.args.op (two a b) (c.in_ok-x.x ∷ c.in_ok-y.y ∷ []) c.requires refl (both x y)
+
+pub applied_to_two-returns-clause-value : goal.applied_to_two-returns-clause-value
+applied_to_two-returns-clause-value t c =
+    let s = c.args.scene.now in
+    let fs = map plain_function s.functions.now in
+    let old = c.args.bound.now.items in
+    let value = term_value (calls_upto fs s.upto) (at (values_in s.now)) (at (values_in s.later)) in
+    let a = plain c.args.a.now in
+    let b = plain c.args.b.now in
+    let kept : c.value.new.bound.items ≡ old = c.in_ok-x.ensures.kept in
+    let x : c.in_ok-x.x ≡ value old a = c.in_ok-x.ensures.value in
+    let got : c.in_ok-y.y ≡ value c.value.new.bound.items b = c.in_ok-y.ensures.value in
+    let y = got ∙ ap (λ bound. value bound b) kept in
+    c.operate.ensures ∙ ap (op_value c.args.op) (both x y)
 
 pub value-inner_value-requires : goal.value-inner_value-requires
 value-inner_value-requires t c =
-    let s = c.args.scene in
+    let s = c.args.scene.now in
     let fs = map plain_function s.functions.now in
     let old = c.args.bound.now.items in
     let values = term_values (calls_upto fs s.upto) (at (values_in s.now)) (at (values_in s.later)) old in
@@ -52,7 +107,7 @@ value-inner_value-requires t c =
 
 pub value-returns-in_ok-more-in-Let-clause-value : goal.value-returns-in_ok-more-in-Let-clause-value
 value-returns-in_ok-more-in-Let-clause-value t c =
-    let s = c.args.scene in
+    let s = c.args.scene.now in
     let fs = map plain_function s.functions.now in
     let old = c.args.bound.now.items in
     let value = term_value (calls_upto fs s.upto) (at (values_in s.now)) (at (values_in s.later)) in
@@ -71,7 +126,7 @@ value-returns-in_ok-more-in-Let-clause-value t c =
 
 pub value-call-requires : goal.value-call-requires
 value-call-requires t c =
-    let s = c.args.scene in
+    let s = c.args.scene.now in
     let fs = map plain_function s.functions.now in
     let old = c.args.bound.now.items in
     let values = term_values (calls_upto fs s.upto) (at (values_in s.now)) (at (values_in s.later)) old in
@@ -116,7 +171,7 @@ call-returns t c =
 
 pub values-value-requires : goal.values-value-requires
 values-value-requires t c =
-    let s = c.args.scene in
+    let s = c.args.scene.now in
     let fs = map plain_function s.functions.now in
     let l = c.loop-t in
     let ts = c.args.terms.now in
@@ -131,7 +186,7 @@ values-value-requires t c =
 
 pub values-loop-t-preserved : goal.values-loop-t-preserved
 values-loop-t-preserved t c =
-    let s = c.args.scene in
+    let s = c.args.scene.now in
     let fs = map plain_function s.functions.now in
     let l = c.loop-t in
     let ts = c.args.terms.now in
