@@ -1,5 +1,5 @@
 -- What is answered to a text's bytes is what is defined of them, and what was written for them stands for its lines.
-use Rattle.std.proofs.Common.{◌≡◌, ◌<◌, ◌∙◌, ℕ, zero, suc, List, [], ◌∷◌, Option, Some, refl, sym, ap, length, subst, slice_get, arith}
+use Rattle.std.proofs.Common.{◌≡◌, ◌<◌, ◌∙◌, ℕ, zero, suc, List, [], ◌∷◌, Option, Some, refl, sym, ap, length, subst, slice_get, arith, Result, Ok, Err}
 use Rattle.text_core.specs.declared.place.Place.{Place}
 use Rattle.text_core.specs.Outside.{Files, file_at, grown}
 use Rattle.btor_tree.specs.declared.lines.Line.{Line}
@@ -26,6 +26,7 @@ use Rattle.btor_commands.specs.Importing.{IsImport, IsScriptText, IsCorrectOutpu
 use Rattle.btor_commands.specs.Judgement.{btor_too_long}
 use Rattle.btor_commands.specs.Limits.{most_btor_bytes}
 use Rattle.btor_commands.specs.Traces.{HasTrace}
+use Rattle.std.specs.Prelude.{IfOk}
 
 -- ---- one answer
 
@@ -80,3 +81,7 @@ module _ (lines : List Line) (p : Place) (well : IsWellFormed lines) (have : Tra
     queries = count;
     frames = λ j k h. (from_frames j k h, from_trace j k);
   }
+
+pub ok_same : {A E : Type 0} (result : Result A E) (x y : A) → x ≡ y → IfOk result (λ a. a ≡ x) → IfOk result (λ a. a ≡ y)
+ok_same (Ok a) x y e h = h ∙ e
+ok_same (Err z) x y e h = tt

@@ -1,6 +1,6 @@
 -- What is written for an accepted model is a script that stands for it.
-use Rattle.std.proofs.Common.{◌≡◌, ℕ, ◌<◌, List, Option, Some, Result, Ok, Err, sym, ap, ◌∙◌, subst}
-use Rattle.std.specs.Prelude.{IfOk, slice_get}
+use Rattle.std.proofs.Common.{◌≡◌, ℕ, ◌<◌, List, Option, Some, sym, ap, ◌∙◌, subst}
+use Rattle.std.specs.Prelude.{slice_get}
 use Rattle.text_core.specs.declared.place.Place.{Place}
 use Rattle.smv_text.specs.Tree.{PlainSource}
 use Rattle.smv_flat.specs.FlatForms.{PlainFlat, flat_smv}
@@ -65,10 +65,6 @@ module _ (source : PlainSource) (p : Place) (has : HasQueries source)
   }
 
 -- ---- texts
-
-pub ok_same : {A E : Type 0} (result : Result A E) (x y : A) → x ≡ y → IfOk result (λ a. a ≡ x) → IfOk result (λ a. a ≡ y)
-ok_same (Ok a) x y e h = h ∙ e
-ok_same (Err z) x y e h = tt
 
 -- the text of a model's flat form is the model's
 pub made_text : (source : PlainSource) (flat : PlainFlat) (width : ℕ) → flat ≡ flat_smv source → width ≡ width_of (flat_smv source) → lines_text (shown_script (script_of flat width)) ≡ moxi_text source

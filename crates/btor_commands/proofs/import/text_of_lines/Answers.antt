@@ -1,16 +1,11 @@
-use Rattle.std.proofs.Common.{◌≡◌, Result, Ok, Err, ap, ◌∙◌}
-use Rattle.std.specs.Prelude.{IfOk}
+use Rattle.std.proofs.Common.{ap}
 use Rattle.moxi_term_print.specs.Shown.{lines_text}
 use Rattle.moxi_scripts.specs.Script.{PlainScript}
 use Rattle.moxi_scripts.specs.ScriptView.{plain_script}
 use Rattle.moxi_script_print.specs.Printing.{shown_script}
-use Rattle.btor_import.specs.Script.{import_of}
 use Rattle.btor_commands.specs.Importing.{script_text}
 use Rattle.btor_commands.proofs.import.text_of_lines.Goals as goal
-
-ok_same : {A E : Type 0} (result : Result A E) (x y : A) → x ≡ y → IfOk result (λ a. a ≡ x) → IfOk result (λ a. a ≡ y)
-ok_same (Ok a) x y e h = h ∙ e
-ok_same (Err z) x y e h = tt
+use Rattle.btor_commands.proofs.Imported.{ok_same}
 
 pub returns : goal.returns
 unfolding script_text

@@ -1,13 +1,11 @@
-use Rattle.std.proofs.Common.{◌≡◌, true, false, refl, sym, ap, ◌∙◌}
+use Rattle.std.proofs.Common.{refl, sym, ap, ◌∙◌}
 use Rattle.std.proofs.lemmas.Option.{same_Some}
 use Rattle.btor_tree.specs.declared.lines.Line.{Line}
 use Rattle.btor_tree.specs.Sharing.{is_shared}
 use Rattle.btor_rules.specs.declared.operand.Outcome.TheVariants.{Stays}
 use Rattle.btor_simplify.proofs.Sharing.{has_same}
 use Rattle.btor_simplify.proofs.fates.fate_of.Goals as goal
-
-differ : true ≡ false → ⊥
-differ e = absurd (cc)
+use Rattle.btor_simplify.proofs.Ordering.{differ}
 
 pub returns-else-is_shared-clause-has : goal.returns-else-is_shared-clause-has
 returns-else-is_shared-clause-has c =

@@ -5,8 +5,8 @@ use Rattle.moxi_scripts.specs.ScriptView.{plain_script}
 use Rattle.moxi_script_print.specs.Printing.{shown_script}
 use Rattle.smv_flatten.specs.FlatModel.{flat_plain}
 use Rattle.smv_script.specs.Script.{script_of}
-use Rattle.smv_commands.proofs.ScriptStands.{ok_same}
 use Rattle.smv_commands.proofs.script.text_of.Goals as goal
+use Rattle.btor_commands.proofs.Imported.{ok_same}
 
 pub returns : goal.returns
 returns c =
