@@ -1,8 +1,8 @@
 // The translation of lines to a script.
-ghost use Rattle.std.specs.Prelude.{◌≡◌, ◌++◌, [], IfOk, codes, map};
+ghost use Rattle.std.specs.Prelude.{◌≡◌, IfOk, codes, map};
 ghost use Rattle.btor_tree.specs.Fits.{is_bad};
 ghost use Rattle.moxi_scripts.specs.Invariant.{IsSpelled};
-ghost use Rattle.moxi_scripts.specs.Script.{plain_check, plain_formula, plain_system, query_of};
+ghost use Rattle.moxi_scripts.specs.Script.{plain_check, plain_formula, plain_system};
 ghost use Rattle.moxi_scripts.specs.ScriptView.{plain_script};
 ghost use Rattle.btor_import.specs.Assembling.{check_form, number_at, script_with, system_form};
 ghost use Rattle.btor_import.specs.Script.{import_of, lines_in, number_of, queries_from, reachable_of, reachables_from};
@@ -10,12 +10,15 @@ ghost use Rattle.btor_import.specs.Script.{import_of, lines_in, number_of, queri
 use crate::laws::scripts_are_spelled;
 use crate::numbers::numbers_of;
 use crate::parts::{Part, formula_of, is_bad, is_true};
-use crate::variables::{Group, numbered, variables_in};
+use crate::variables::{Group, variables_in};
 use btor_tree::{Line, Nodes};
-use moxi_scripts::{Check, Formula, Formulas, Queries, Query, Script, Subsystems, System, Systems};
-use moxi_terms::{Scope, Variable, Variables};
+use moxi_scripts::{
+    Check, Formula, Formulas, Queries, Script, Subsystems, System, Systems, numbered, query_of,
+    variables_again,
+};
+use moxi_terms::Scope;
 use std::alloc::Global;
-use text_core::{FIRST_PLACE, Name, NoMemory, Numbers, Place};
+use text_core::{FIRST_PLACE, Name, NoMemory, Place};
 
 // The system, given the number of each line's variable.
 fn system_of(alloc: Global, nodes: &Nodes, numbers: &[u32]) -> Result<System, NoMemory>
@@ -38,20 +41,6 @@ fn system_of(alloc: Global, nodes: &Nodes, numbers: &[u32]) -> Result<System, No
         trans,
         inv,
         subsystems: Subsystems::new(alloc),
-    })
-}
-
-fn query_of(alloc: Global, j: usize) -> Result<Query, NoMemory>
-    ensures { IfOk result (λ q. q ≡ query_of j) }
-{
-    let name = numbered(alloc, b"q.", j)?;
-    let mut reachables = Numbers::new(alloc);
-    reachables.push(j as u64)?;
-    Ok(Query {
-        name,
-        assumptions: Numbers::new(alloc),
-        currents: Numbers::new(alloc),
-        reachables,
     })
 }
 
@@ -88,28 +77,6 @@ fn queries_of(alloc: Global, nodes: &Nodes) -> Result<Queries, NoMemory>
             let query = query_of(alloc, all.len())?;
             all.push(query)?;
         }
-    }
-    Ok(all)
-}
-
-// A copy of a variable.
-fn variable_again(alloc: Global, variable: &Variable) -> Result<Variable, NoMemory>
-    ensures { IfOk result (λ v. v ≡ variable.now) }
-{
-    let name = variable.name.duplicate(alloc)?;
-    Ok(Variable {
-        name,
-        sort: variable.sort,
-    })
-}
-
-// A copy of variables.
-fn variables_again(alloc: Global, variables: &Variables) -> Result<Variables, NoMemory>
-    ensures { IfOk result (λ vs. vs ≡ variables.now) }
-{
-    let mut all = Variables::with_capacity(alloc, variables.len())?;
-    for variable in variables {
-        all.push(variable_again(alloc, variable)?)?;
     }
     Ok(all)
 }

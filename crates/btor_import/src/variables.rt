@@ -1,14 +1,14 @@
 // The variables of a system.
-ghost use Rattle.std.specs.Prelude.{◌≡◌, ◌++◌, ◌∷◌, [], IfOk, OnOk, decimal};
+ghost use Rattle.std.specs.Prelude.{◌≡◌, ◌++◌, ◌∷◌, [], IfOk, OnOk};
 ghost use Rattle.btor_import.specs.Assembling.{group_kind, group_letter, variables_for};
 ghost use Rattle.btor_import.specs.Script.{variable_of, variables_in};
 
 use crate::numbers::{is_input, is_local, is_state, sort_at};
 use btor_tree::{Line, LineOp, Nodes};
-use itoa::Buffer;
+use moxi_scripts::numbered;
 use moxi_terms::{Sort, Variable, Variables};
 use std::alloc::Global;
-use text_core::{Name, NoMemory};
+use text_core::NoMemory;
 
 /// The list of a system's variables to which a line's variable belongs (MoXI, SPIN 2024).
 #[derive(Clone, Copy)]
@@ -19,15 +19,6 @@ pub(crate) enum Group {
     Outputs,
     /// The constant and operator lines.
     Locals,
-}
-
-/// Builds a name from a prefix, which is a letter and a dot, and a number.
-pub(crate) fn numbered(alloc: Global, letter: &[u8], number: usize) -> Result<Name, NoMemory>
-    ensures { IfOk result (λ n. n ≡ letter.now ++ decimal number) }
-{
-    let mut buffer = Buffer::new();
-    let digits = buffer.format(number);
-    Name::joined(alloc, letter, digits.as_bytes())
 }
 
 fn is_in(group: Group, op: &LineOp) -> bool

@@ -6,6 +6,7 @@
 
 mod asking;
 mod laws;
+mod making;
 mod parts;
 mod script;
 mod trace;
@@ -16,6 +17,7 @@ pub use asking::{
     steps_are_tested_by_system_and_query,
 };
 pub use laws::{failures_have_kinds, least_is_least, one_script};
+pub use making::{numbered, query_of, variables_again};
 pub use parts::{
     Actual, Command, CommandName, Declared, DeclaredList, Entries, Key, ListPlaces, Lists,
     QueryNames, Turn, Use,

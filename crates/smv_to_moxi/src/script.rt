@@ -1,8 +1,8 @@
 // The script of a flat form.
 ghost use Rattle.moxi_terms.specs.Names.{no_scope};
-ghost use Rattle.std.specs.Prelude.{OnOk, ◌≡◌, ◌<◌, ◌≤◌, ◌^◌, ◌++◌, IfOk, length, map, codes, decimal};
+ghost use Rattle.std.specs.Prelude.{OnOk, ◌≡◌, ◌<◌, ◌≤◌, ◌^◌, ◌++◌, IfOk, length, map, codes};
 ghost use Rattle.moxi_scripts.specs.Invariant.{IsSpelled};
-ghost use Rattle.moxi_scripts.specs.Script.{plain_check, plain_formula, plain_system, query_of};
+ghost use Rattle.moxi_scripts.specs.Script.{plain_check, plain_formula, plain_system};
 ghost use Rattle.moxi_scripts.specs.ScriptView.{plain_script};
 ghost use Rattle.smv_items.specs.FlatItemView.{item_plain};
 ghost use Rattle.smv_flat.specs.FlatFormulas.{form_plain};
@@ -18,8 +18,11 @@ ghost use Rattle.smv_to_moxi.specs.Assembling.{symbol_scope, check_form, is_inva
 ghost use Rattle.smv_to_moxi.specs.SingleView.{plain_single};
 ghost use Rattle.smv_to_moxi.specs.Symbols.{CanBeConstants};
 
-use moxi_scripts::{Check, Formula, Formulas, Queries, Query, Script, Subsystems, System, Systems};
-use moxi_terms::{Scope, Variable, Variables};
+use moxi_scripts::{
+    Check, Formula, Formulas, Queries, Script, Subsystems, System, Systems, numbered, query_of,
+    variables_again,
+};
+use moxi_terms::Scope;
 use name_maps::NameSet;
 use smv_flat::{FlatFormula, FlatParts, Role};
 use smv_items::FlatItem;
@@ -30,7 +33,7 @@ use smv_script_terms::{
 use smv_text::When;
 use std::alloc::Global;
 use std::mem;
-use text_core::{Name, Names, NoMemory, Numbers, Place, Text};
+use text_core::{Name, Names, NoMemory, Place};
 
 /// The script of a flat form, with its only system by value (MoXI, SPIN 2024).
 #[derive(Drop)]
@@ -109,30 +112,6 @@ fn system_of<'f>(alloc: Global, coding: &Coding, flat: &SmallFlat<'f>) -> Result
     system_with(alloc, coding, flat, &chains)
 }
 
-// The prefix `letter`, followed by a number.
-fn numbered(alloc: Global, letter: &[u8], number: usize) -> Result<Name, NoMemory>
-    ensures { IfOk result (λ n. n ≡ letter.now ++ decimal number) }
-{
-    let mut text = Text::new(alloc);
-    text.put(letter)?;
-    text.put_unsigned(number as u128)?;
-    Name::of(alloc, text.bytes())
-}
-
-fn query_of(alloc: Global, j: usize) -> Result<Query, NoMemory>
-    ensures { IfOk result (λ q. q ≡ query_of j) }
-{
-    let name = numbered(alloc, b"q.", j)?;
-    let mut reachables = Numbers::new(alloc);
-    reachables.push(j as u64)?;
-    Ok(Query {
-        name,
-        assumptions: Numbers::new(alloc),
-        currents: Numbers::new(alloc),
-        reachables,
-    })
-}
-
 // The formula that an invariant is broken.
 fn reachable_of(
     alloc: Global,
@@ -190,29 +169,6 @@ fn queries_of(alloc: Global, formulas: &[FlatFormula]) -> Result<Queries, NoMemo
             let query = query_of(alloc, all.len())?;
             all.push(query)?;
         }
-    }
-    Ok(all)
-}
-
-// A copy of a variable.
-fn variable_again(alloc: Global, variable: &Variable) -> Result<Variable, NoMemory>
-    ensures { IfOk result (λ v. v ≡ variable.now) }
-{
-    let name = variable.name.duplicate(alloc)?;
-    Ok(Variable {
-        name,
-        sort: variable.sort,
-    })
-}
-
-// A copy of the variables.
-fn variables_again(alloc: Global, variables: &Variables) -> Result<Variables, NoMemory>
-    ensures { IfOk result (λ vs. vs ≡ variables.now) }
-{
-    let mut all = Variables::with_capacity(alloc, variables.len())?;
-    for variable in variables {
-        let again = variable_again(alloc, variable)?;
-        all.push(again)?;
     }
     Ok(all)
 }

@@ -1,6 +1,0 @@
-use Rattle.std.proofs.Common.{◌≡◌, ◌++◌}
-use Rattle.std.specs.Slice.Iter.{iter_rest}
-use Rattle.smv_to_moxi.proofs.script.variables_again.Given as goal
-
-abbrev pub invariant-loop-variable : goal.invariant-loop-variable
-invariant-loop-variable l = l.all ++ iter_rest l.variable-iterator ≡ l.variables
