@@ -246,7 +246,7 @@ fn turns_end(turn: Turn) -> bool
     }
 }
 
-#[tactic(auto, using(moxi_scripts::proofs::Forms::forms_step, moxi_scripts::proofs::Forms::forms_end))]
+#[tactic(auto, using(moxi_sexpr::proofs::Counting::forms_step, moxi_sexpr::proofs::Counting::forms_end))]
 fn turns_fit(command: Command, forms: &[Form]) -> bool
     ensures { result ≡ turns_fit command turns.AtKeyword (plain_forms forms.now) }
 {
@@ -267,7 +267,7 @@ fn is_above(count: usize, k: Key, turn: Turn) -> usize
     if is_behind(k, turn) { count + 1 } else { count }
 }
 
-#[tactic(auto, using(moxi_scripts::proofs::Forms::forms_step, moxi_scripts::proofs::Forms::forms_end))]
+#[tactic(auto, using(moxi_sexpr::proofs::Counting::forms_step, moxi_sexpr::proofs::Counting::forms_end))]
 fn count_of(command: Command, k: Key, forms: &[Form]) -> usize
     ensures { result ≡ count_of command k turns.AtKeyword (plain_forms forms.now) }
 {
@@ -281,7 +281,7 @@ fn count_of(command: Command, k: Key, forms: &[Form]) -> usize
 }
 
 /// Returns the first value of a key.
-#[tactic(auto, using(moxi_scripts::proofs::Forms::forms_step, moxi_scripts::proofs::Forms::forms_end))]
+#[tactic(auto, using(moxi_sexpr::proofs::Counting::forms_step, moxi_sexpr::proofs::Counting::forms_end))]
 pub fn value_of<'a>(command: Command, k: Key, forms: &'a [Form]) -> Option<&'a Form>
     ensures { value_now result ≡ value_of command k turns.AtKeyword (plain_forms forms.now) }
 {

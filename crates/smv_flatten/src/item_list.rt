@@ -50,7 +50,7 @@ fn flat_item<'a>(
 }
 
 /// Returns the items of these origins.
-#[tactic(auto, using(smv_meaning::specs::laws::Lists::front_is, smv_meaning::specs::laws::Lists::end_is, smv_items::specs::laws::OriginLemmas::joined_on, smv_items::specs::laws::OriginLemmas::append_none))]
+#[tactic(auto, using(smv_meaning::specs::laws::Lists::front_is, smv_meaning::specs::laws::Lists::end_is, text_core::proofs::ListLaws::joined_on, text_core::proofs::ListLaws::append_none))]
 pub(crate) fn flat_items<'a>(
     alloc: Global,
     table: &Table<'a>,

@@ -72,7 +72,7 @@ fn variable<'a>(kind: VarKind, d: &'a Domain) -> Option<Content<'a>>
     }
 }
 
-#[tactic(auto, using(smv_meaning::specs::laws::Lists::front_is, smv_meaning::specs::laws::Lists::end_is, smv_meaning::specs::laws::Lists::trees_front, smv_meaning::specs::laws::Lists::trees_end, crate::specs::laws::OriginLemmas::append_none, crate::specs::laws::OriginLemmas::none_actual))]
+#[tactic(auto, using(smv_meaning::specs::laws::Lists::front_is, smv_meaning::specs::laws::Lists::end_is, smv_meaning::specs::laws::Lists::trees_front, smv_meaning::specs::laws::Lists::trees_end, text_core::proofs::ListLaws::append_none, crate::specs::laws::OriginLemmas::none_actual))]
 fn add_actuals<'a>(
     origins: &mut Origins<'a>,
     i: u32,
@@ -172,7 +172,7 @@ fn put_origins<'a>(origins: &mut Origins<'a>, i: u32, at: &Instance<'a>) -> Resu
 }
 
 /// Returns the origins of a model's items, in order.
-#[tactic(auto, using(smv_meaning::specs::laws::Lists::front_is, smv_meaning::specs::laws::Lists::end_is, crate::specs::laws::OriginLemmas::joined_on))]
+#[tactic(auto, using(smv_meaning::specs::laws::Lists::front_is, smv_meaning::specs::laws::Lists::end_is, text_core::proofs::ListLaws::joined_on))]
 pub fn origins_in<'a>(alloc: Global, table: &Table<'a>) -> Result<Origins<'a>, NoMemory>
     requires few { length table.now < 2 ^ 32 }
     ensures { IfOk result (λ os. map origin_plain os.items ≡ origins_of (map instance_plain table.now)) }

@@ -91,7 +91,7 @@ fn are_same(t: Option<Ty>, u: Option<Ty>) -> bool
     }
 }
 
-#[tactic(auto, using(smv_names::specs::laws::Composing::ends, smv_names::specs::laws::Composing::both_pass, smv_names::specs::laws::Composing::fails_behind))]
+#[tactic(auto, using(smv_meaning::specs::laws::Composing::ends, smv_meaning::specs::laws::Composing::both_pass, smv_names::specs::laws::Composing::fails_behind))]
 pub(crate) fn formula_checked<'a>(
     alloc: Global,
     table: &Table<'a>,
@@ -125,7 +125,7 @@ fn position_of(when: When) -> Position
 }
 
 /// Checks an assignment, given the properties of its target.
-#[tactic(auto, using(smv_names::specs::laws::Composing::ends, smv_names::specs::laws::Composing::both_pass, smv_names::specs::laws::Composing::fails_behind))]
+#[tactic(auto, using(smv_meaning::specs::laws::Composing::ends, smv_meaning::specs::laws::Composing::both_pass, smv_names::specs::laws::Composing::fails_behind))]
 pub(crate) fn assignment_checked<'a>(
     alloc: Global,
     table: &Table<'a>,

@@ -19,7 +19,7 @@ use smv_text::{Assignments, Definitions, Element, Elements, Expr, Items, Path};
 use smv_types::{Named, Position};
 use std::alloc::Global;
 
-#[tactic(auto, using(crate::proofs::Lists::trees_on, smv_names::specs::laws::Composing::goes, smv_names::specs::laws::Composing::ends))]
+#[tactic(auto, using(crate::proofs::Lists::trees_on, smv_meaning::specs::laws::Composing::goes, smv_meaning::specs::laws::Composing::ends))]
 fn actuals_checked<'a>(
     alloc: Global,
     table: &Table<'a>,
@@ -36,7 +36,7 @@ fn actuals_checked<'a>(
     Ok(())
 }
 
-#[tactic(auto, using(smv_names::specs::laws::Composing::goes, smv_names::specs::laws::Composing::ends))]
+#[tactic(auto, using(smv_meaning::specs::laws::Composing::goes, smv_meaning::specs::laws::Composing::ends))]
 fn items_checked(items: &Items) -> Result<(), NamesEnd>
     ensures { Settles result (flat_map item_typing (map plain_item items.now)) }
 {
@@ -46,7 +46,7 @@ fn items_checked(items: &Items) -> Result<(), NamesEnd>
     Ok(())
 }
 
-#[tactic(auto, using(smv_meaning::specs::laws::Lists::front_is, smv_meaning::specs::laws::Lists::end_is, smv_names::specs::laws::Composing::goes, smv_names::specs::laws::Composing::ends))]
+#[tactic(auto, using(smv_meaning::specs::laws::Lists::front_is, smv_meaning::specs::laws::Lists::end_is, smv_meaning::specs::laws::Composing::goes, smv_meaning::specs::laws::Composing::ends))]
 fn definitions_checked<'a>(
     alloc: Global,
     table: &Table<'a>,
@@ -93,7 +93,7 @@ fn named_behind<'a>(
     types.named(table, i, path)
 }
 
-#[tactic(auto, using(smv_meaning::specs::laws::Lists::front_is, smv_meaning::specs::laws::Lists::end_is, smv_names::specs::laws::Composing::goes, smv_names::specs::laws::Composing::ends))]
+#[tactic(auto, using(smv_meaning::specs::laws::Lists::front_is, smv_meaning::specs::laws::Lists::end_is, smv_meaning::specs::laws::Composing::goes, smv_meaning::specs::laws::Composing::ends))]
 fn assignments_checked<'a>(
     alloc: Global,
     table: &Table<'a>,
@@ -144,7 +144,7 @@ fn element_checked<'a>(
     }
 }
 
-#[tactic(auto, using(smv_names::specs::laws::Composing::goes, smv_names::specs::laws::Composing::ends))]
+#[tactic(auto, using(smv_meaning::specs::laws::Composing::goes, smv_meaning::specs::laws::Composing::ends))]
 fn elements_checked<'a>(
     alloc: Global,
     table: &Table<'a>,
@@ -162,7 +162,7 @@ fn elements_checked<'a>(
 }
 
 /// Checks an instance: first its actuals, which are read in its parent, then its own elements.
-#[tactic(auto, using(smv_names::specs::laws::Composing::both_pass, smv_names::specs::laws::Composing::ends, smv_names::specs::laws::Composing::ends_behind))]
+#[tactic(auto, using(smv_meaning::specs::laws::Composing::both_pass, smv_meaning::specs::laws::Composing::ends, smv_meaning::specs::laws::Composing::ends_behind))]
 pub(crate) fn instance_checked<'a>(
     alloc: Global,
     table: &Table<'a>,

@@ -96,7 +96,7 @@ impl<'a> Types<'a> {
 ///
 /// `Err` is out of memory or the first refusal, one of S16 to S20 and S23 to S26. Instances come in preorder. In each,
 /// its actuals come first, then its elements in the order of the text.
-#[tactic(auto, using(smv_meaning::specs::laws::Lists::front_is, smv_meaning::specs::laws::Lists::end_is, smv_names::specs::laws::Composing::goes, smv_names::specs::laws::Composing::ends))]
+#[tactic(auto, using(smv_meaning::specs::laws::Lists::front_is, smv_meaning::specs::laws::Lists::end_is, smv_meaning::specs::laws::Composing::goes, smv_meaning::specs::laws::Composing::ends))]
 pub fn types_checked<'a>(
     alloc: Global,
     table: &Table<'a>,

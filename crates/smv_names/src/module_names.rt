@@ -55,7 +55,7 @@ fn main_failing(table: &ModuleTable, end: Place) -> Option<Refusal>
 /// Checks the modules of a model, the first phase.
 ///
 /// Module names are distinct (S9), and there is a module `main` without parameters (S8).
-#[tactic(auto, using(crate::specs::laws::Composing::ends, crate::specs::laws::Composing::both_pass, crate::specs::laws::Composing::fails_behind))]
+#[tactic(auto, using(smv_meaning::specs::laws::Composing::ends, smv_meaning::specs::laws::Composing::both_pass, crate::specs::laws::Composing::fails_behind))]
 pub fn modules_checked(alloc: Global, source: &Source) -> Result<(), NamesEnd>
     ensures { Settles result (module_checks (plain_source source.now)) }
 {

@@ -124,7 +124,7 @@ fn put_elements_paths<'a>(paths: &mut Vec<&'a Path>, elements: &'a Elements) -> 
 
 // Checks the paths of the actuals, read in the parent, then those of the instance's own elements. The list `paths` is
 // reused for both.
-#[tactic(auto, using(crate::specs::laws::Composing::both_pass, crate::specs::laws::Composing::ends, crate::specs::laws::Composing::ends_behind))]
+#[tactic(auto, using(smv_meaning::specs::laws::Composing::both_pass, smv_meaning::specs::laws::Composing::ends, smv_meaning::specs::laws::Composing::ends_behind))]
 fn instance_checked<'a>(
     table: &Table<'a>,
     i: usize,
@@ -145,7 +145,7 @@ fn instance_checked<'a>(
 /// Checks that each path of an instantiated module has a target.
 ///
 /// Otherwise `Err` is S14 at the first path that has none.
-#[tactic(auto, using(smv_meaning::specs::laws::Lists::front_is, smv_meaning::specs::laws::Lists::end_is, crate::specs::laws::Composing::goes, crate::specs::laws::Composing::ends))]
+#[tactic(auto, using(smv_meaning::specs::laws::Lists::front_is, smv_meaning::specs::laws::Lists::end_is, smv_meaning::specs::laws::Composing::goes, smv_meaning::specs::laws::Composing::ends))]
 pub fn paths_checked<'a>(alloc: Global, table: &Table<'a>) -> Result<(), NamesEnd>
     ensures { Settles result (over_instances (path_checks (found_in (map instance_plain table.now))) 0 (map instance_plain table.now)) }
 {

@@ -58,7 +58,7 @@ pub fn place(e: &Expr) -> Place
     }
 }
 
-#[tactic(auto, using(smv_meaning::specs::laws::Lists::front_is, smv_meaning::specs::laws::Lists::trees_front, smv_meaning::specs::laws::Lists::end_is, smv_meaning::specs::laws::Lists::trees_end, crate::proofs::BodyLemmas::append_none, crate::proofs::BodyLemmas::none_placed))]
+#[tactic(auto, using(smv_meaning::specs::laws::Lists::front_is, smv_meaning::specs::laws::Lists::trees_front, smv_meaning::specs::laws::Lists::end_is, smv_meaning::specs::laws::Lists::trees_end, text_core::proofs::ListLaws::append_none, crate::proofs::BodyLemmas::none_placed))]
 fn add_actuals<'a>(
     bodies: &mut Vec<Body<'a>>,
     i: usize,
@@ -76,7 +76,7 @@ fn add_actuals<'a>(
     Ok(())
 }
 
-#[tactic(auto, using(crate::proofs::BodyLemmas::joined_on))]
+#[tactic(auto, using(text_core::proofs::ListLaws::joined_on))]
 fn add_definitions<'a>(
     bodies: &mut Vec<Body<'a>>,
     i: usize,
@@ -90,7 +90,7 @@ fn add_definitions<'a>(
     Ok(())
 }
 
-#[tactic(auto, using(crate::proofs::BodyLemmas::joined_on))]
+#[tactic(auto, using(text_core::proofs::ListLaws::joined_on))]
 fn add_elements<'a>(
     bodies: &mut Vec<Body<'a>>,
     i: usize,

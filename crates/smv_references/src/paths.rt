@@ -11,7 +11,7 @@ use std::alloc::Global;
 use text_core::NoMemory;
 
 /// Returns the paths of an expression, in the order of the text.
-#[tactic(auto, using(crate::proofs::BodyLemmas::append_none))]
+#[tactic(auto, using(text_core::proofs::ListLaws::append_none))]
 pub fn paths_in<'a>(alloc: Global, e: &'a Expr) -> Result<Vec<&'a Path>, NoMemory>
     ensures { IfOk result (λ ps. map path_seen ps.items ≡ paths_of (plain e.now) []) }
 {
@@ -21,7 +21,7 @@ pub fn paths_in<'a>(alloc: Global, e: &'a Expr) -> Result<Vec<&'a Path>, NoMemor
 }
 
 /// Appends the paths of an expression, in the order of the text.
-#[tactic(auto, using(crate::proofs::BodyLemmas::append_none))]
+#[tactic(auto, using(text_core::proofs::ListLaws::append_none))]
 pub fn put_paths<'a>(paths: &mut Vec<&'a Path>, e: &'a Expr) -> Result<(), NoMemory>
     ensures { OnOk result (map path_seen paths.new.items ≡ map path_seen paths.old.items ++ paths_of (plain e.now) []) }
 {
@@ -30,7 +30,7 @@ pub fn put_paths<'a>(paths: &mut Vec<&'a Path>, e: &'a Expr) -> Result<(), NoMem
 }
 
 /// Appends the paths of several expressions, in the order of the text.
-#[tactic(auto, using(crate::proofs::BodyLemmas::append_none))]
+#[tactic(auto, using(text_core::proofs::ListLaws::append_none))]
 pub fn put_all_paths<'a>(paths: &mut Vec<&'a Path>, trees: &'a [Expr]) -> Result<(), NoMemory>
     ensures { OnOk result (map path_seen paths.new.items ≡ map path_seen paths.old.items ++ tree_paths (trees_of (map plain trees.now)) []) }
 {
