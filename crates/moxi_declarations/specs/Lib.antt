@@ -1,3 +1,4 @@
+pub mod Commands
 pub mod FunctionView
 pub mod Once
 pub mod Sizes

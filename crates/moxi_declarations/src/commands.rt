@@ -1,14 +1,16 @@
 // The commands of a script.
 ghost use Rattle.std.specs.Str.{bytes_eq};
-ghost use Rattle.std.specs.Prelude.{codes, ◌≡◌, ◌<◌, ◌+◌, ◌^◌, ◌++◌, [], suc, Some, IfOk, OnOk};
+ghost use Rattle.std.specs.Prelude.{codes, ◌≡◌, ◌<◌, ◌+◌, ◌^◌, ◌++◌, [], suc, Some, OnOk};
 ghost use Rattle.moxi_sexpr.specs.Tree.{all_nodes, nodes, plain, plain_forms};
 ghost use Rattle.moxi_term_reading.specs.Forms.{only_of, symbol_now};
 ghost use Rattle.moxi_scripts.specs.declared.parts.CommandName.TheVariants as name;
 ghost use Rattle.moxi_scripts.specs.Collecting.{also};
 ghost use Rattle.moxi_scripts.specs.Commands.{command_failures, command_named, commands_failures, declaring_name, form_failures};
-ghost use Rattle.moxi_scripts.specs.Commands.{headed_failures, known_failures, logic_failures, logic_of, logic_symbol};
+ghost use Rattle.moxi_scripts.specs.Commands.{headed_failures, logic_failures, logic_of, logic_symbol};
 ghost use Rattle.moxi_scripts.specs.Commands.{logic_symbol_failures, nothing_read, other_name, reading_after, system_name};
-ghost use Rattle.moxi_scripts.specs.Commands.{with_command, with_form, with_headed, with_known};
+ghost use Rattle.moxi_scripts.specs.Commands.{with_command, with_form, with_headed};
+ghost use Rattle.moxi_scripts.specs.Systems.{system_tests};
+ghost use Rattle.moxi_declarations.specs.Commands.{with_headed_system};
 ghost use Rattle.moxi_declarations.specs.Sizes.{reading_size};
 ghost use Rattle.moxi_declarations.specs.Views.{plain_draft};
 ghost use Rattle.moxi_attributes.specs.Views.{headed_here};
@@ -16,7 +18,7 @@ ghost use Rattle.moxi_attributes.specs.Views.{headed_here};
 use crate::checks::{ReadCheck, read_check};
 use crate::functions::read_function;
 use crate::sorts::{read_enumeration, read_sort};
-use crate::systems::{ReadSystem, read_system};
+use crate::systems::{ReadSystem, append_system, read_system};
 use moxi_attributes::{Headed, fail, fail_if, fail_primed, headed_forms, place_of};
 use moxi_scripts::{CommandName, Entries};
 use moxi_sexpr::{Form, FormShape};
@@ -166,6 +168,52 @@ fn read_logic_name(
     }
 }
 
+// Reads a system, given its name and the forms after it, and tests its name.
+#[tactic(auto, using(moxi_attributes::specs::laws::Collecting::also_append))]
+fn define_system(
+    alloc: Global,
+    draft: &mut Draft,
+    p: Place,
+    h: Headed,
+    found: &mut Option<Refusal>,
+) -> Result<(), NoMemory>
+    requires few { all_nodes (headed_here h).rest < 2 ^ 32 }
+    ensures draft { OnOk result (plain_draft draft.new ≡ with_headed_system (plain_draft draft.old) (Some (headed_here h.entry))) }
+    ensures finds { OnOk result (found.new ≡ also found.old (system_tests draft.old.scope draft.old.system_names p (headed_here h.entry))) }
+{
+    fail_primed(found, h.primed, h.place);
+    let new = draft.system_names.declare(alloc, h.name)?;
+    fail_if(found, !new, moxi::NAME_TWICE, h.place);
+    let r = read_system(alloc, &draft.scope, p, h, &mut draft.variables, found)?;
+    append_system(new, &mut draft.systems, &mut draft.repeated, r)?;
+    Ok(())
+}
+
+// Reads a system. One whose name is already in use is read like any other, and appended to `repeated`.
+#[tactic(auto, using(moxi_attributes::specs::laws::Collecting::nothing_more))]
+fn add_system(
+    alloc: Global,
+    draft: &mut Draft,
+    p: Place,
+    forms: &[Form],
+    found: &mut Option<Refusal>,
+) -> Result<(), NoMemory>
+    requires few { all_nodes (plain_forms forms.now) < 2 ^ 32 }
+    ensures draft { OnOk result (plain_draft draft.new ≡ with_command name.System (plain_draft draft.old) p (plain_forms forms.now)) }
+    ensures finds { OnOk result (found.new ≡ also found.old (command_failures name.System (plain_draft draft.old) p (plain_forms forms.now))) }
+{
+    match headed_forms(forms) {
+        None => {
+            fail(found, moxi::ARITY, p);
+            Ok(())
+        }
+        Some(h) => {
+            define_system(alloc, draft, p, h, found)?;
+            Ok(())
+        }
+    }
+}
+
 // Reads a check. A second one fails.
 #[tactic(auto, using(moxi_attributes::specs::laws::Collecting::also_append))]
 fn add_check(
@@ -238,17 +286,7 @@ fn read_command(
             Ok(())
         }
         CommandName::System => {
-            read_system(
-                alloc,
-                &draft.scope,
-                &mut draft.system_names,
-                &mut draft.variables,
-                &mut draft.systems,
-                &mut draft.repeated,
-                p,
-                forms,
-                found,
-            )?;
+            add_system(alloc, draft, p, forms, found)?;
             Ok(())
         }
         CommandName::Check => {

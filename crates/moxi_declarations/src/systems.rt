@@ -1,5 +1,5 @@
 // Systems, as read before their subsystems' systems are looked up.
-ghost use Rattle.std.specs.Prelude.{◌≡◌, ◌<◌, ◌^◌, ◌++◌, ◌∷◌, [], true, Some, IfOk, OnOk, map};
+ghost use Rattle.std.specs.Prelude.{◌≡◌, ◌<◌, ◌^◌, ◌++◌, ◌∷◌, [], true, IfOk, OnOk, map};
 ghost use Rattle.moxi_sexpr.specs.Tree.{all_nodes, plain_forms};
 ghost use Rattle.moxi_terms.specs.View.{plain};
 ghost use Rattle.moxi_terms.specs.declared.data.Primes.TheVariants as may;
@@ -8,28 +8,24 @@ ghost use Rattle.moxi_scripts.specs.declared.parts.Turn.TheVariants as turns;
 ghost use Rattle.moxi_scripts.specs.declared.parts.Command.TheVariants as commands;
 ghost use Rattle.moxi_scripts.specs.Attributes.{shape_holds};
 ghost use Rattle.moxi_scripts.specs.Collecting.{also};
-ghost use Rattle.moxi_scripts.specs.Entries.{names_with};
 ghost use Rattle.moxi_scripts.specs.Formulas.{formula_term};
 ghost use Rattle.moxi_scripts.specs.Lists.{all_entries, lists_in, value_at};
-ghost use Rattle.moxi_scripts.specs.Shapes.{headed};
 ghost use Rattle.moxi_attributes.specs.Views.{headed_here};
 ghost use Rattle.moxi_scripts.specs.Systems.{bare_system, content_failures, content_of, formula_failures_in, formulas_failures, locals_of};
-ghost use Rattle.moxi_scripts.specs.Systems.{names_with_system, no_list, shaped_failures, shaped_system, shaped_variables};
-ghost use Rattle.moxi_scripts.specs.Systems.{system_failures, system_tests, use_failures_in, variables_failures, variables_of_system};
-ghost use Rattle.moxi_scripts.specs.Systems.{with_new_system, with_repeated, with_repeated_system, with_system};
+ghost use Rattle.moxi_scripts.specs.Systems.{no_list, shaped_failures, shaped_system, shaped_variables};
+ghost use Rattle.moxi_scripts.specs.Systems.{use_failures_in, variables_failures, with_new_system, with_repeated_system};
 ghost use Rattle.moxi_declarations.specs.Views.{plain_reading};
 ghost use Rattle.moxi_scripts.specs.Uses.{uses_failures, uses_in};
 
 use crate::once::read_locals;
 use moxi_attributes::{
-    Headed, append_lists, fail, fail_if, fail_primed, headed_forms, read_formula, read_lists,
-    read_uses, shape_holds, test_keywords, true_term, value_of,
+    Headed, append_lists, fail, read_formula, read_lists, read_uses, shape_holds, test_keywords,
+    true_term, value_of,
 };
 use moxi_scripts::{Command, DeclaredList, Entries, Key, Lists, Use};
 use moxi_sexpr::Form;
 use moxi_term_reading::Locals;
 use moxi_terms::{Primes, Scope, Term};
-use name_maps::NameSet;
 use std::alloc::Global;
 use std::mem::drop;
 use text_core::kinds::moxi;
@@ -249,9 +245,9 @@ fn bare_system(alloc: Global, name: &[u8]) -> Result<ReadSystem, NoMemory>
     })
 }
 
-// Reads the system at `p` with this name.
+/// Reads `(define-system S ..)` at `p`, given its name and the forms after it.
 #[tactic(auto, using(moxi_attributes::specs::laws::Collecting::nothing_more))]
-fn read_shaped(
+pub fn read_system(
     alloc: Global,
     scope: &Scope,
     p: Place,
@@ -273,8 +269,8 @@ fn read_shaped(
     Ok(r)
 }
 
-/// Appends an element.
-pub fn put<T>(all: &mut Vec<T>, x: T) -> Result<(), NoMemory>
+// Appends an element.
+fn put<T>(all: &mut Vec<T>, x: T) -> Result<(), NoMemory>
 where
     T: Drop,
     ensures { OnOk result (all.new.items ≡ all.old.items ++ x ∷ []) }
@@ -282,9 +278,9 @@ where
     Ok(all.push(x)?)
 }
 
-// Appends a system to those with new names, or to those whose names are already in use.
+/// Appends a system to those with new names, or to those whose names are already in use.
 #[tactic(auto, using(moxi_terms::proofs::ScopeLaws::map_end))]
-fn add_system(
+pub fn append_system(
     new: bool,
     systems: &mut Vec<ReadSystem>,
     repeated: &mut Vec<ReadSystem>,
@@ -297,68 +293,4 @@ fn add_system(
         return put(systems, r);
     }
     put(repeated, r)
-}
-
-// Reads a system at `p`, and tests its name.
-#[tactic(auto, using(moxi_attributes::specs::laws::Collecting::also_append))]
-fn define_system(
-    alloc: Global,
-    scope: &Scope,
-    names: &mut NameSet,
-    variables: &mut Entries,
-    systems: &mut Vec<ReadSystem>,
-    repeated: &mut Vec<ReadSystem>,
-    p: Place,
-    h: Headed,
-    found: &mut Option<Refusal>,
-) -> Result<(), NoMemory>
-    requires few { all_nodes (headed_here h).rest < 2 ^ 32 }
-    ensures adds { OnOk result (map plain_reading systems.new.items ≡ with_system scope.now names.old (map plain_reading systems.old.items) (Some (headed_here h.entry))) }
-    ensures repeats { OnOk result (map plain_reading repeated.new.items ≡ with_repeated scope.now names.old (map plain_reading repeated.old.items) (Some (headed_here h.entry))) }
-    ensures names { OnOk result (names.new ≡ names_with names.old (headed_here h.entry).name) }
-    ensures variables { OnOk result (variables.new ≡ variables.old ++ shaped_variables scope.now (headed_here h.entry).rest) }
-    ensures finds { OnOk result (found.new ≡ also found.old (system_tests scope.now names.old p (headed_here h.entry))) }
-{
-    fail_primed(found, h.primed, h.place);
-    let new = names.declare(alloc, h.name)?;
-    fail_if(found, !new, moxi::NAME_TWICE, h.place);
-    let r = read_shaped(alloc, scope, p, h, variables, found)?;
-    add_system(new, systems, repeated, r)?;
-    Ok(())
-}
-
-/// Reads `(define-system S ..)` at `p`, given the forms after its head.
-///
-/// A system whose name is already in use is read like any other, and appended to `repeated`.
-#[tactic(auto, using(moxi_attributes::specs::laws::Collecting::nothing_more))]
-pub fn read_system(
-    alloc: Global,
-    scope: &Scope,
-    names: &mut NameSet,
-    variables: &mut Entries,
-    systems: &mut Vec<ReadSystem>,
-    repeated: &mut Vec<ReadSystem>,
-    p: Place,
-    forms: &[Form],
-    found: &mut Option<Refusal>,
-) -> Result<(), NoMemory>
-    requires few { all_nodes (plain_forms forms.now) < 2 ^ 32 }
-    ensures adds { OnOk result (map plain_reading systems.new.items ≡ with_system scope.now names.old (map plain_reading systems.old.items) (headed (plain_forms forms.now))) }
-    ensures repeats { OnOk result (map plain_reading repeated.new.items ≡ with_repeated scope.now names.old (map plain_reading repeated.old.items) (headed (plain_forms forms.now))) }
-    ensures names { OnOk result (names.new ≡ names_with_system names.old (headed (plain_forms forms.now))) }
-    ensures variables { OnOk result (variables.new ≡ variables.old ++ variables_of_system scope.now (headed (plain_forms forms.now))) }
-    ensures finds { OnOk result (found.new ≡ also found.old (system_failures scope.now names.old p (plain_forms forms.now))) }
-{
-    match headed_forms(forms) {
-        None => {
-            fail(found, moxi::ARITY, p);
-            Ok(())
-        }
-        Some(h) => {
-            define_system(
-                alloc, scope, names, variables, systems, repeated, p, h, found,
-            )?;
-            Ok(())
-        }
-    }
 }

@@ -3,12 +3,13 @@ use Rattle.std.specs.Prelude.{◌≡◌, ℕ, Bool, true, false, ◌&&◌, ◌||
 use Rattle.std.specs.Borrow.{Bor}
 use Rattle.std.specs.HashMap.{HashMap, get_by}
 use Rattle.smv_text.specs.declared.tree.Path.{Path}
-use Rattle.smv_text.specs.Tree.{Tree, Links, Branches}
+use Rattle.smv_text.specs.Tree.{Tree, Links, Branches, Trees}
 use Rattle.smv_meaning.specs.declared.value.Value.{Value}
 use Rattle.smv_operators.specs.declared.seen.Seen.{Seen}
 use Rattle.smv_evaluation.specs.declared.dotted.Dotted.{Dotted}
 use Rattle.smv_evaluation.specs.declared.rows.Values.{Values}
 use Rattle.smv_evaluation.specs.declared.rows.Row.{Row}
+use Rattle.smv_evaluation.specs.declared.evaluate.Scene.{Scene}
 use Rattle.smv_evaluation.specs.declared.reached.Reach.{Reach}
 use Rattle.smv_meaning.specs.Bodies.{placed_bodies, IsBodyOrder}
 use Rattle.smv_instances.specs.declared.instances.Instance.{Instance as PartOf}
@@ -20,7 +21,7 @@ use Rattle.smv_meaning.specs.Names.{Local, body_of, local, Found, body_at}
 use Rattle.smv_meaning.specs.Meaning.{value_found}
 use Rattle.name_maps.specs.Maps.{named_in}
 use Rattle.smv_meaning.specs.Reached.{leads_to, local_leads_to}
-use Rattle.smv_meaning.specs.Safety.{Safe, SafeLinks, SafeBranches}
+use Rattle.smv_meaning.specs.Safety.{Safe, SafeLinks, SafeOperands, SafeBranches, SafeTrees}
 use Rattle.smv_meaning.specs.Settled.{values_in}
 use Rattle.smv_operators.specs.View.{seen_value}
 use Rattle.smv_evaluation.specs.View.{stated}
@@ -117,29 +118,47 @@ MarkedSafe t marks state label = (k : ℕ) (x : List ℕ) → is_marked marks k 
 abbrev pub MarkedAreCached : {S : Type 0} → List PartOf → HashMap (ℕ × Bor (List ℕ)) Bool S → Row → Values → Type 0
 MarkedAreCached ts marks row label = (k : ℕ) (x : List ℕ) (j : ℕ) (e : Tree) → is_marked marks k x ≡ true → local (map instance_plain ts) k x ≡ body_of j e → FoundIsCached ts row label (body_at k x j e)
 
--- ---- an expression of an instance, by what is kept for this state and for the following one
+-- ---- an expression in a scene, by what is kept for this state and for the following one
 
-abbrev pub CachedSafe : List PartOf → ℕ → (now later : Row) → Values → Tree → Type 0
-CachedSafe ts i now later label e = Safe (IsCached ts i now label) (IsCached ts i later label) (row_reads ts i now label) (row_reads ts i later label) e
+abbrev pub reads_now : Scene → Path → Value
+reads_now s = row_reads s.table.now s.instance s.current.now s.label.now
 
-abbrev pub CachedSafeLinks : List PartOf → ℕ → (now later : Row) → Values → Value → Links → Type 0
-CachedSafeLinks ts i now later label v ls = SafeLinks (IsCached ts i now label) (IsCached ts i later label) (row_reads ts i now label) (row_reads ts i later label) v ls
+abbrev pub reads_later : Scene → Path → Value
+reads_later s = row_reads s.table.now s.instance s.following.now s.label.now
 
-abbrev pub CachedSafeBranches : List PartOf → ℕ → (now later : Row) → Values → Branches → Type 0
-CachedSafeBranches ts i now later label bs = SafeBranches (IsCached ts i now label) (IsCached ts i later label) (row_reads ts i now label) (row_reads ts i later label) bs
+abbrev pub IsCachedNow : Scene → Path → Type 0
+IsCachedNow s = IsCached s.table.now s.instance s.current.now s.label.now
 
-abbrev pub cached_denote : List PartOf → ℕ → (now later : Row) → Values → Tree → Denotation
-cached_denote ts i now later label e = denote (row_reads ts i now label) (row_reads ts i later label) e
+abbrev pub IsCachedLater : Scene → Path → Type 0
+IsCachedLater s = IsCached s.table.now s.instance s.following.now s.label.now
 
-abbrev pub cached_chosen : List PartOf → ℕ → (now later : Row) → Values → Branches → Denotation → Denotation
-cached_chosen ts i now later label bs d = chosen (row_reads ts i now label) (row_reads ts i later label) bs d
+abbrev pub CachedSafe : Scene → Tree → Type 0
+CachedSafe s e = Safe (IsCachedNow s) (IsCachedLater s) (reads_now s) (reads_later s) e
+
+abbrev pub CachedSafeLinks : Scene → Value → Links → Type 0
+CachedSafeLinks s v ls = SafeLinks (IsCachedNow s) (IsCachedLater s) (reads_now s) (reads_later s) v ls
+
+abbrev pub CachedSafeOperands : Scene → Links → Type 0
+CachedSafeOperands s ls = SafeOperands (IsCachedNow s) (IsCachedLater s) (reads_now s) (reads_later s) ls
+
+abbrev pub CachedSafeBranches : Scene → Branches → Type 0
+CachedSafeBranches s bs = SafeBranches (IsCachedNow s) (IsCachedLater s) (reads_now s) (reads_later s) bs
+
+abbrev pub CachedSafeTrees : Scene → Trees → Type 0
+CachedSafeTrees s es = SafeTrees (IsCachedNow s) (IsCachedLater s) (reads_now s) (reads_later s) es
+
+abbrev pub cached_denote : Scene → Tree → Denotation
+cached_denote s e = denote (reads_now s) (reads_later s) e
+
+abbrev pub cached_chosen : Scene → Branches → Denotation → Denotation
+cached_chosen s bs d = chosen (reads_now s) (reads_later s) bs d
 
 -- the expression is the one that is chosen: the value of the first branch whose condition is true, else the last one
-abbrev pub IsChosen : List PartOf → ℕ → (now later : Row) → Values → Branches → (last e : Tree) → Type 0
-IsChosen ts i now later label bs last e = cached_denote ts i now later label e ≡ cached_chosen ts i now later label bs (cached_denote ts i now later label last)
+abbrev pub IsChosen : Scene → Branches → (last e : Tree) → Type 0
+IsChosen s bs last e = cached_denote s e ≡ cached_chosen s bs (cached_denote s last)
 
-abbrev pub cached_taken : List PartOf → ℕ → (now later : Row) → Values → Branches → Denotation
-cached_taken ts i now later label bs = taken (row_reads ts i now label) (row_reads ts i later label) bs
+abbrev pub cached_taken : Scene → Branches → Denotation
+cached_taken s bs = taken (reads_now s) (reads_later s) bs
 
 -- ---- what an evaluation changes
 

@@ -6,7 +6,7 @@ ghost use Rattle.smv_evaluation.specs.Rows.{AreGiven, is_marked, IsOrdered, Mark
 ghost use Rattle.smv_instances.specs.View.{instance_plain};
 ghost use Rattle.smv_evaluation.specs.View.{stated};
 
-use crate::evaluate::evaluate;
+use crate::evaluate::{Scene, evaluate};
 use crate::reached::{Marks, Reach, has_mark};
 use crate::rows::{Row, Values, values_of};
 use name_maps::{nothing_in, put_in};
@@ -30,7 +30,14 @@ fn keep_local<'a>(
 {
     match table.local(i, x) {
         Known::Body(j, e) => {
-            let value = evaluate(table, j, e, row, label, row);
+            let scene = Scene {
+                table,
+                instance: j,
+                current: row,
+                label,
+                following: row,
+            };
+            let value = evaluate(&scene, e);
             put_in(&mut row.bodies, i, x, value)
         }
         Known::Alias(_, _) => Ok(()),

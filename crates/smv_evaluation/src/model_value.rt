@@ -11,7 +11,7 @@ ghost use Rattle.smv_meaning.specs.Checked.{IsChecked, reaches_an_input};
 ghost use Rattle.smv_instances.specs.View.{instance_plain};
 ghost use Rattle.smv_evaluation.specs.View.{stated};
 
-use crate::evaluate::evaluate;
+use crate::evaluate::{Scene, evaluate};
 use crate::fill::row_of;
 use crate::literals::literals_are_words;
 use crate::reached::reach_of;
@@ -76,11 +76,22 @@ pub fn value_at<'a>(
     let reach = reach_of(alloc, &table, i, expr)?;
     let label = values_of(alloc, label)?;
     let here = row_of(alloc, &table, &reach, now, &label)?;
+    let scene = Scene {
+        table: &table,
+        instance: i,
+        current: &here,
+        label: &label,
+        following: &here,
+    };
     match following {
-        None => into_value(alloc, evaluate(&table, i, expr, &here, &label, &here)),
+        None => into_value(alloc, evaluate(&scene, expr)),
         Some(later) => {
             let there = row_of(alloc, &table, &reach, later, &label)?;
-            into_value(alloc, evaluate(&table, i, expr, &here, &label, &there))
+            let scene = Scene {
+                following: &there,
+                ..scene
+            };
+            into_value(alloc, evaluate(&scene, expr))
         }
     }
 }

@@ -1,10 +1,10 @@
 use Rattle.std.proofs.Common.{drop, length, ◌+◌, ◌*◌, ◌≡◌, ◌≤◌, max, map, ◌+ℤ◌, pos}
 use Rattle.smv_text.specs.Tree.{links_of, branches_of, trees_of}
 use Rattle.smv_text.specs.View.{plain, plain_branch, plain_link}
-use Rattle.smv_meaning.specs.Expressions.{denote, chosen, values_of, one_permits}
+use Rattle.smv_meaning.specs.Expressions.{values_of, one_permits}
 use Rattle.smv_meaning.specs.Operators.{trues}
-use Rattle.smv_meaning.specs.Safety.{depth, right_depth, link_depth, branch_depth, tree_depth, fronts_value, fronts_permit, SafeLinks, SafeBranches, SafeTrees}
-use Rattle.smv_evaluation.specs.Rows.{row_reads, IsCached}
+use Rattle.smv_meaning.specs.Safety.{depth, right_depth, link_depth, branch_depth, tree_depth, fronts_value, fronts_permit}
+use Rattle.smv_evaluation.specs.Rows.{reads_now, reads_later, CachedSafeLinks, CachedSafeBranches, CachedSafeTrees, cached_denote, cached_chosen}
 use Rattle.smv_operators.specs.View.{seen_value, plain_or}
 use Rattle.smv_evaluation.proofs.evaluate.+evaluate.Given as goal
 
@@ -41,22 +41,22 @@ decreases-one_has l = 8 * tree_depth (trees_of (map plain l.elements.now)) + 3
 abbrev pub invariant-last_front-loop-link : goal.invariant-last_front-loop-link
 invariant-last_front-loop-link l = record {
   low : link_depth (links_of (map plain_link (drop l.link-index l.links))) ≤ link_depth (links_of (map plain_link l.links));
-  safe : SafeLinks (IsCached l.table l.i l.now l.label) (IsCached l.table l.i l.later l.label) (row_reads l.table l.i l.now l.label) (row_reads l.table l.i l.later l.label) (plain_or l.front (seen_value l.first)) (links_of (map plain_link (drop l.link-index l.links)));
-  same : fronts_value (row_reads l.table l.i l.now l.label) (row_reads l.table l.i l.later l.label) (plain_or l.front (seen_value l.first)) (links_of (map plain_link (drop l.link-index l.links))) ≡ fronts_value (row_reads l.table l.i l.now l.label) (row_reads l.table l.i l.later l.label) (seen_value l.first) (links_of (map plain_link l.links));
+  safe : CachedSafeLinks l.scene (plain_or l.front (seen_value l.first)) (links_of (map plain_link (drop l.link-index l.links)));
+  same : fronts_value (reads_now l.scene) (reads_later l.scene) (plain_or l.front (seen_value l.first)) (links_of (map plain_link (drop l.link-index l.links))) ≡ fronts_value (reads_now l.scene) (reads_later l.scene) (seen_value l.first) (links_of (map plain_link l.links));
 }
 
 abbrev pub invariant-last_has-loop-link : goal.invariant-last_has-loop-link
 invariant-last_has-loop-link l = record {
   low : link_depth (links_of (map plain_link (drop l.link-index l.links))) ≤ link_depth (links_of (map plain_link l.links));
-  safe : SafeLinks (IsCached l.table l.i l.now l.label) (IsCached l.table l.i l.later l.label) (row_reads l.table l.i l.now l.label) (row_reads l.table l.i l.later l.label) (plain_or l.front (seen_value l.first)) (links_of (map plain_link (drop l.link-index l.links)));
-  same : fronts_permit (row_reads l.table l.i l.now l.label) (row_reads l.table l.i l.later l.label) (seen_value l.value) (plain_or l.front (seen_value l.first)) l.has (links_of (map plain_link (drop l.link-index l.links))) ≡ fronts_permit (row_reads l.table l.i l.now l.label) (row_reads l.table l.i l.later l.label) (seen_value l.value) (seen_value l.first) l.fn.first_has (links_of (map plain_link l.links));
+  safe : CachedSafeLinks l.scene (plain_or l.front (seen_value l.first)) (links_of (map plain_link (drop l.link-index l.links)));
+  same : fronts_permit (reads_now l.scene) (reads_later l.scene) (seen_value l.value) (plain_or l.front (seen_value l.first)) l.has (links_of (map plain_link (drop l.link-index l.links))) ≡ fronts_permit (reads_now l.scene) (reads_later l.scene) (seen_value l.value) (seen_value l.first) l.fn.first_has (links_of (map plain_link l.links));
 }
 
 abbrev pub invariant-chosen_branch-loop-branch : goal.invariant-chosen_branch-loop-branch
 invariant-chosen_branch-loop-branch l = record {
   low : branch_depth (branches_of (map plain_branch l.rest)) ≤ branch_depth (branches_of (map plain_branch l.fn.branches));
-  safe : SafeBranches (IsCached l.table l.i l.now l.label) (IsCached l.table l.i l.later l.label) (row_reads l.table l.i l.now l.label) (row_reads l.table l.i l.later l.label) (branches_of (map plain_branch l.rest));
-  same : chosen (row_reads l.table l.i l.now l.label) (row_reads l.table l.i l.later l.label) (branches_of (map plain_branch l.rest)) (denote (row_reads l.table l.i l.now l.label) (row_reads l.table l.i l.later l.label) (plain l.last)) ≡ chosen (row_reads l.table l.i l.now l.label) (row_reads l.table l.i l.later l.label) (branches_of (map plain_branch l.fn.branches)) (denote (row_reads l.table l.i l.now l.label) (row_reads l.table l.i l.later l.label) (plain l.last));
+  safe : CachedSafeBranches l.scene (branches_of (map plain_branch l.rest));
+  same : cached_chosen l.scene (branches_of (map plain_branch l.rest)) (cached_denote l.scene (plain l.last)) ≡ cached_chosen l.scene (branches_of (map plain_branch l.fn.branches)) (cached_denote l.scene (plain l.last));
 }
 
 abbrev pub decreases-chosen_branch-loop-branch : goal.decreases-chosen_branch-loop-branch
@@ -65,13 +65,13 @@ decreases-chosen_branch-loop-branch l = length l.rest
 abbrev pub invariant-call_value-loop-argument : goal.invariant-call_value-loop-argument
 invariant-call_value-loop-argument l = record {
   low : tree_depth (trees_of (map plain (drop l.argument-index l.arguments))) ≤ tree_depth (trees_of (map plain l.arguments));
-  safe : SafeTrees (IsCached l.table l.i l.now l.label) (IsCached l.table l.i l.later l.label) (row_reads l.table l.i l.now l.label) (row_reads l.table l.i l.later l.label) (trees_of (map plain (drop l.argument-index l.arguments)));
-  same : l.count +ℤ pos (trues (values_of (row_reads l.table l.i l.now l.label) (row_reads l.table l.i l.later l.label) (trees_of (map plain (drop l.argument-index l.arguments))))) ≡ pos (trues (values_of (row_reads l.table l.i l.now l.label) (row_reads l.table l.i l.later l.label) (trees_of (map plain l.arguments))));
+  safe : CachedSafeTrees l.scene (trees_of (map plain (drop l.argument-index l.arguments)));
+  same : l.count +ℤ pos (trues (values_of (reads_now l.scene) (reads_later l.scene) (trees_of (map plain (drop l.argument-index l.arguments))))) ≡ pos (trues (values_of (reads_now l.scene) (reads_later l.scene) (trees_of (map plain l.arguments))));
 }
 
 abbrev pub invariant-one_has-loop-element : goal.invariant-one_has-loop-element
 invariant-one_has-loop-element l = record {
   low : tree_depth (trees_of (map plain (drop l.element-index l.elements))) ≤ tree_depth (trees_of (map plain l.elements));
-  safe : SafeTrees (IsCached l.table l.i l.now l.label) (IsCached l.table l.i l.later l.label) (row_reads l.table l.i l.now l.label) (row_reads l.table l.i l.later l.label) (trees_of (map plain (drop l.element-index l.elements)));
-  same : one_permits (row_reads l.table l.i l.now l.label) (row_reads l.table l.i l.later l.label) (trees_of (map plain (drop l.element-index l.elements))) (seen_value l.value) ≡ one_permits (row_reads l.table l.i l.now l.label) (row_reads l.table l.i l.later l.label) (trees_of (map plain l.elements)) (seen_value l.value);
+  safe : CachedSafeTrees l.scene (trees_of (map plain (drop l.element-index l.elements)));
+  same : one_permits (reads_now l.scene) (reads_later l.scene) (trees_of (map plain (drop l.element-index l.elements))) (seen_value l.value) ≡ one_permits (reads_now l.scene) (reads_later l.scene) (trees_of (map plain l.elements)) (seen_value l.value);
 }

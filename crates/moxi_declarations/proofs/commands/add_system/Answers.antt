@@ -3,7 +3,7 @@ use Rattle.moxi_sexpr.specs.Tree.{plain_forms}
 use Rattle.moxi_scripts.specs.Shapes.{headed}
 use Rattle.moxi_attributes.specs.Views.{headed_here, headed_now}
 use Rattle.moxi_attributes.specs.laws.FormSizes.{headed_few}
-use Rattle.moxi_declarations.proofs.systems.read_system.Goals as goal
+use Rattle.moxi_declarations.proofs.commands.add_system.Goals as goal
 
 pub define_system-requires : goal.define_system-requires
 define_system-requires c =
