@@ -58,7 +58,7 @@ fn reachables_of(alloc: Global, nodes: &Nodes, numbers: &[u32]) -> Result<Formul
     ensures { IfOk result (λ fs. map plain_formula fs ≡ reachables_from (number_at numbers.now) 0 (lines_in is_bad nodes.now)) }
 {
     let mut all = Formulas::new(alloc);
-    for line in nodes {
+    for line in nodes.as_slice() {
         if is_bad(&line.op) {
             let formula = reachable_of(alloc, numbers, all.len(), line)?;
             all.push(formula)?;
@@ -72,7 +72,7 @@ fn queries_of(alloc: Global, nodes: &Nodes) -> Result<Queries, NoMemory>
     ensures { IfOk result (λ qs. qs ≡ queries_from 0 (lines_in is_bad nodes.now)) }
 {
     let mut all = Queries::new(alloc);
-    for line in nodes {
+    for line in nodes.as_slice() {
         if is_bad(&line.op) {
             let query = query_of(alloc, all.len())?;
             all.push(query)?;

@@ -79,7 +79,7 @@ pub(crate) fn variables_in(
     ensures { IfOk result (λ vs. vs ≡ variables_in (group_letter group) (group_kind group) nodes.now) }
 {
     let mut all = Variables::new(alloc);
-    for line in nodes {
+    for line in nodes.as_slice() {
         add_variable(alloc, nodes, group, line, &mut all)?;
     }
     Ok(all)

@@ -266,6 +266,7 @@ pub fn fates_of(alloc: Global, nodes: &Nodes) -> Result<Vec<Outcome>, NoMemory>
 {
     let mut fates = Vec::new(alloc);
     let mut contents = BTreeMap::new(alloc);
+    nodes.are_well_formed();
     for line in nodes.as_slice() {
         let fate = fate_of(nodes, &fates, &mut contents, line)?;
         fates.push(fate)?;

@@ -1,5 +1,4 @@
-use Rattle.std.proofs.Common.{◌≡◌, ◌++◌, length, map}
-use Rattle.std.specs.Slice.Iter.{iter_rest}
+use Rattle.std.proofs.Common.{◌≡◌, ◌++◌, drop, length, map}
 use Rattle.btor_tree.specs.Fits.{is_bad}
 use Rattle.moxi_scripts.specs.Script.{plain_formula}
 use Rattle.btor_import.specs.Assembling.{number_at}
@@ -7,4 +6,4 @@ use Rattle.btor_import.specs.Script.{lines_in, reachables_from}
 use Rattle.btor_import.proofs.script.reachables_of.Given as goal
 
 abbrev pub invariant-loop-line : goal.invariant-loop-line
-invariant-loop-line l = map plain_formula l.all ++ reachables_from (number_at l.numbers) (length l.all) (lines_in is_bad (iter_rest l.line-iterator)) ≡ reachables_from (number_at l.numbers) 0 (lines_in is_bad l.nodes)
+invariant-loop-line l = map plain_formula l.all ++ reachables_from (number_at l.numbers) (length l.all) (lines_in is_bad (drop l.line-index l.nodes)) ≡ reachables_from (number_at l.numbers) 0 (lines_in is_bad l.nodes)

@@ -17,6 +17,19 @@ loop-line-init c =
       long = ap length none;
     }
 
+pub fate_of-requires-clause-next : goal.fate_of-requires-clause-next
+fate_of-requires-clause-next c =
+    let lines = c.args.nodes.now in
+    let l = c.line-item.result in
+    let v = c.deref.ensures.value in
+    let here : slice_get c.as_slice-line-items.result.now c.loop-line.line-index ≡ Some l = slice_get_read c.as_slice-line-items.result.now _ c.loop-line.line-index l refl c.loop-line-test.true c.line-item.is in
+    let at : slice_get lines (length c.loop-line.fates.items) ≡ Some l = ap (slice_get lines) c.loop-line.invariant.long ∙ ap (λ xs. slice_get xs c.loop-line.line-index) (sym c.as_slice-line-items.ensures) ∙ here in
+    record {
+      well_formed = c.are_well_formed.ensures;
+      known = subst (AreFates lines) (sym v) c.loop-line.invariant.known;
+      at = ap (λ fs. slice_get lines (length fs)) v ∙ at;
+    }
+
 pub loop-line-preserved : goal.loop-line-preserved
 loop-line-preserved c =
     let lines = c.args.nodes.now in
@@ -25,7 +38,8 @@ loop-line-preserved c =
     let f = c.in_ok-fate.fate in
     let v = c.deref.ensures.value in
     let more = c.in_ok-push.ensures.items in
-    let at : slice_get lines (length fates) ≡ Some l = ap (slice_get lines) c.loop-line.invariant.long ∙ c.at.ensures in
+    let here : slice_get c.as_slice-line-items.result.now c.loop-line.line-index ≡ Some l = slice_get_read c.as_slice-line-items.result.now _ c.loop-line.line-index l refl c.loop-line-test.true c.line-item.is in
+    let at : slice_get lines (length fates) ≡ Some l = ap (slice_get lines) c.loop-line.invariant.long ∙ ap (λ xs. slice_get xs c.loop-line.line-index) (sym c.as_slice-line-items.ensures) ∙ here in
     let fate = subst (λ fs. IsFate lines fs l f) v c.in_ok-fate.ensures.fate in
     let keeps = subst (λ fs. KeepsWidth lines fs (length fs) f) v c.in_ok-fate.ensures.width in
     let has = subst (λ fs. HasContents lines (fs ++ f ∷ []) c.fate_of.new.contents) v c.in_ok-fate.ensures.has in
