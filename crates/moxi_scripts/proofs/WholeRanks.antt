@@ -21,7 +21,7 @@ use Rattle.moxi_scripts.proofs.MeetingLaws.{or_second}
 -- COUNTS
 
 -- how many numbers below n pass
-pub count : (ℕ → Bool) → ℕ → ℕ
+unfoldable pub count : (ℕ → Bool) → ℕ → ℕ
 count p zero = 0
 count p (suc n) = cond (p n) 1 0 + count p n
 

@@ -72,7 +72,6 @@ fn variable<'a>(kind: VarKind, d: &'a Domain) -> Option<Content<'a>>
     }
 }
 
-#[tactic(auto, using(smv_meaning::specs::laws::Lists::front_is, smv_meaning::specs::laws::Lists::end_is, smv_meaning::specs::laws::Lists::trees_front, smv_meaning::specs::laws::Lists::trees_end, text_core::proofs::ListLaws::append_none, crate::specs::laws::OriginLemmas::none_actual))]
 fn add_actuals<'a>(
     origins: &mut Origins<'a>,
     i: u32,
@@ -82,16 +81,8 @@ fn add_actuals<'a>(
 ) -> Result<(), NoMemory>
     ensures { OnOk result (map origin_plain origins.new.items ≡ map origin_plain origins.old.items ++ actual_items i parent parameters.now (trees_of (map plain actuals.now))) }
 {
-    for k in 0..parameters.len() {
-        if k >= actuals.len() {
-            return Ok(());
-        }
-        add(
-            origins,
-            i,
-            parameters.at(k).name.bytes(),
-            actual(parent, &actuals[k]),
-        )?;
+    for (parameter, e) in parameters.iter().zip(actuals) {
+        add(origins, i, parameter.name.bytes(), actual(parent, e))?;
     }
     Ok(())
 }

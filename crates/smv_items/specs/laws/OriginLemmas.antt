@@ -1,11 +1,14 @@
 -- Lists of items, grown from the left, and where the items of an instance end.
-use Rattle.std.proofs.Common.{◌≡◌, ℕ, ◌+◌, ◌<◌, ◌==◌, Bool, true, false, if◌then◌else◌, List, [], ◌∷◌, ◌++◌, take, drop, length, map, flat_map, Option, Some, None, refl, sym, ap, ◌∙◌, arith}
+use Rattle.std.proofs.Common.{◌≡◌, ℕ, ◌+◌, ◌<◌, ◌==◌, ◌⊎◌, inl, inr, Bool, true, false, if◌then◌else◌, List, [], ◌∷◌, ◌++◌, take, drop, length, map, flat_map, Option, Some, None, refl, sym, ap, ◌∙◌, arith}
 use Rattle.std.specs.List.{AllByRecursion}
 use Rattle.std.proofs.lemmas.Bool.{eqb-true, eq-eqb}
 use Rattle.std.proofs.lemmas.List.{take-map, drop-map}
 use Rattle.std.proofs.Math.Seq.{take-append_seam, drop-append_seam}
+use Rattle.text_core.proofs.ListLaws.{append_none}
 use Rattle.smv_text.specs.declared.tree.Parameter.{Parameter}
-use Rattle.smv_text.specs.Tree.{Trees, no_trees, tree, PlainDefinition, PlainElement, vars, defines, constants, assigns, init, trans, invar, spec}
+use Rattle.smv_text.specs.declared.tree.Expr.{Expr}
+use Rattle.smv_text.specs.Tree.{Trees, no_trees, tree, trees_of, PlainDefinition, PlainElement, vars, defines, constants, assigns, init, trans, invar, spec}
+use Rattle.smv_text.specs.View.{plain}
 use Rattle.smv_meaning.specs.Instances.{Instance}
 use Rattle.smv_meaning.specs.Names.{parent_of}
 use Rattle.smv_meaning.specs.Phases.{over_instances}
@@ -13,9 +16,14 @@ use Rattle.smv_items.specs.declared.origins.Origin.{Origin as StoredOrigin}
 use Rattle.smv_items.specs.FlatItems.{Content, Origin, with_content, actual_content, actual_items, domain_content, variable_item, definition_item, element_items, items_here}
 use Rattle.smv_items.specs.FlatOrigins.{origin_plain, own_count}
 
-pub none_actual : (i j : ℕ) (qs : List Parameter) → actual_items i j qs no_trees ≡ []
+none_actual : (i j : ℕ) (qs : List Parameter) → actual_items i j qs no_trees ≡ []
 none_actual i j [] = refl
 none_actual i j (q ∷ qs) = refl
+
+-- no items follow where either list is at its end
+pub no_actuals : (i j : ℕ) (qs : List Parameter) (es : List Expr) (items : List Origin) → (qs ≡ []) ⊎ (es ≡ []) → items ++ actual_items i j qs (trees_of (map plain es)) ≡ items
+no_actuals i j qs es items (inl e) = ap (λ ps. items ++ actual_items i j ps (trees_of (map plain es))) e ∙ append_none items
+no_actuals i j qs es items (inr e) = ap (λ fs. items ++ actual_items i j qs (trees_of (map plain fs))) e ∙ ap (λ ms. items ++ ms) (none_actual i j qs) ∙ append_none items
 
 -- ---- all items of an instance have its number
 
