@@ -162,8 +162,8 @@ pub(crate) fn entries_of<'a>(
     references_come_before();
     order_is_complete();
     let mut entries = variables_of(alloc, table)?;
-    for k in 0..order.len() {
-        let body = numbered_body(bodies, *order.at(k));
+    for number in order.as_slice() {
+        let body = numbered_body(bodies, *number);
         put_body(alloc, table, &mut entries, body)?;
     }
     Ok(entries)

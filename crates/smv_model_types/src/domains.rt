@@ -33,12 +33,12 @@ fn member_type(member: &Member) -> Ty
 fn are_same(members: &Members) -> bool
     ensures { result ≡ are_same (map member_type members.now) }
 {
-    if members.len() == 0 {
-        return false;
-    }
-    let first = member_type(members.at(0));
-    for k in 1..members.len() {
-        if !first.is_same(member_type(members.at(k))) {
+    let Some((first, others)) = members.as_slice().split_first() else {
+        return false
+    };
+    let first = member_type(first);
+    for member in others {
+        if !first.is_same(member_type(member)) {
             return false;
         }
     }
@@ -50,12 +50,12 @@ fn are_same(members: &Members) -> bool
 fn hull_of(members: &Members) -> Ty
     ensures { seen result ≡ hull_of (map member_type members.now) }
 {
-    if members.len() == 0 {
-        return Ty::Truth;
-    }
-    let mut whole = member_type(members.at(0));
-    for k in 1..members.len() {
-        whole = hull(whole, member_type(members.at(k)));
+    let Some((first, others)) = members.as_slice().split_first() else {
+        return Ty::Truth
+    };
+    let mut whole = member_type(first);
+    for member in others {
+        whole = hull(whole, member_type(member));
     }
     whole
 }

@@ -57,8 +57,8 @@ fn definitions_checked<'a>(
     requires { AreTypesOf (map instance_plain table.now) types.now }
     ensures { Settles result (flat_map (definition_typing (types_in true (map instance_plain table.now) i)) (map plain_definition definitions.now)) }
 {
-    for k in 0..definitions.len() {
-        match body_checked(alloc, table, types, i, &definitions.at(k).body) {
+    for definition in definitions.as_slice() {
+        match body_checked(alloc, table, types, i, &definition.body) {
             Ok(()) => {}
             Err(end) => return Err(end),
         }
@@ -105,8 +105,7 @@ fn assignments_checked<'a>(
     ensures { Settles result (flat_map (assigned_typing (types_in true (map instance_plain table.now) i)) (map plain_assignment assignments.now)) }
 {
     let mut last: Option<TargetType<'a>> = None;
-    for k in 0..assignments.len() {
-        let assignment = assignments.at(k);
+    for assignment in assignments.as_slice() {
         let path = &assignment.target;
         let named = named_behind(table, types, i, path, last);
         match assignment_checked(alloc, table, types, i, assignment, named) {

@@ -159,8 +159,8 @@ fn walked<'a>(table: &Table<'a>, entries: &Entries<'a>, i: usize, names: &Names)
     ensures { named_seen result ≡ entries_walk (map instance_plain table.now) (entries_seen entries.now) i names.now }
 {
     let mut at = i;
-    for k in 0..names.len() {
-        let x = names.at(k).bytes();
+    for (k, name) in names.as_slice().iter().enumerate() {
+        let x = name.bytes();
         let known = table.local(at, x);
         match (&*table).instance_of_name(at, x, known) {
             Some(c) => at = c,

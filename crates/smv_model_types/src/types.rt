@@ -109,8 +109,8 @@ pub fn types_checked<'a>(
     ensures types { IfOk result (λ t. AreTypesOf (map instance_plain table.now) t) }
 {
     let types = Types::of(alloc, table, bodies, order)?;
-    for i in 0..table.len() {
-        instance_checked(alloc, table, &types, i, table.at(i))?;
+    for (i, part) in table.list().iter().enumerate() {
+        instance_checked(alloc, table, &types, i, part)?;
     }
     Ok(types)
 }

@@ -115,8 +115,8 @@ pub(crate) fn variables_of<'a>(alloc: Global, table: &Table<'a>) -> Result<Entri
     ensures { IfOk result (λ entries. Right (map instance_plain table.now) (entries_seen entries)) }
 {
     let mut entries = no_rows_in(alloc, names_in_all(table.list()))?;
-    for i in 0..table.len() {
-        put_elements(table, &mut entries, i, &table.at(i).module.elements)?;
+    for (i, part) in table.list().iter().enumerate() {
+        put_elements(table, &mut entries, i, &part.module.elements)?;
     }
     Ok(entries)
 }

@@ -58,7 +58,6 @@ pub fn place(e: &Expr) -> Place
     }
 }
 
-#[tactic(auto, using(smv_meaning::specs::laws::Lists::front_is, smv_meaning::specs::laws::Lists::trees_front, smv_meaning::specs::laws::Lists::end_is, smv_meaning::specs::laws::Lists::trees_end, text_core::proofs::ListLaws::append_none, crate::proofs::BodyLemmas::none_placed))]
 fn add_actuals<'a>(
     bodies: &mut Vec<Body<'a>>,
     i: usize,
@@ -67,11 +66,8 @@ fn add_actuals<'a>(
 ) -> Result<(), NoMemory>
     ensures { OnOk result (map body_plain bodies.new.items ≡ map body_plain bodies.old.items ++ actual_bodies i parameters.now (trees_of (map plain actuals.now))) }
 {
-    for k in 0..parameters.len() {
-        if k >= actuals.len() {
-            return Ok(());
-        }
-        add(bodies, i, parameters.at(k).name.bytes(), place(&actuals[k]))?;
+    for (parameter, e) in parameters.iter().zip(actuals) {
+        add(bodies, i, parameter.name.bytes(), place(e))?;
     }
     Ok(())
 }

@@ -1,6 +1,8 @@
-use Rattle.std.proofs.Common.{◌≡◌, ◌<◌, map, length, take, subst, arith}
-use Rattle.std.proofs.lemmas.List.{take_all}
+use Rattle.std.proofs.Common.{◌≡◌, ◌<◌, List, map, length, take, sym, subst}
+use Rattle.std.specs.Prelude.{slice_index_or}
+use Rattle.std.proofs.lemmas.List.{get_or_default, take_all}
 use Rattle.smv_meaning.specs.Orders.{numbered}
+use Rattle.smv_meaning.specs.Bodies.{IsBodyOrder}
 use Rattle.smv_instances.specs.View.{instance_plain}
 use Rattle.smv_model_types.specs.Entries.{entries_seen}
 use Rattle.smv_model_types.proofs.Filling.{Holds, none_held, all_held}
@@ -9,21 +11,31 @@ use Rattle.smv_model_types.proofs.bodies.entries_of.Goals as goal
 
 pub numbered_body-body-requires : goal.numbered_body-body-requires
 numbered_body-body-requires c =
-    let low : c.loop-k.k < length c.args.order.now = omega arith in
-    number_low (map instance_plain c.args.table.now) c.args.bodies.now c.args.order.now c.loop-k.k c.at.result.now c.requires.bodies c.requires.order low c.at.ensures
+    let t = map instance_plain c.args.table.now in
+    let k = c.loop-number.number-index in
+    let order = c.as_slice-number-items.result.now in
+    let number = slice_index_or order k 0 in
+    let sorted = subst (IsBodyOrder t) (sym c.as_slice-number-items.ensures) c.requires.order in
+    number_low t c.args.bodies.now order k number c.requires.bodies sorted c.loop-number-test.true (get_or_default order k 0 number c.loop-number-test.true)
 
-pub loop-k-init : goal.loop-k-init
-loop-k-init c = none_held (map instance_plain c.args.table.now) (entries_seen c.in_ok-entries.entries) c.in_ok-entries.ensures
+pub loop-number-init : goal.loop-number-init
+loop-number-init c = none_held (map instance_plain c.args.table.now) (entries_seen c.in_ok-entries.entries) c.in_ok-entries.ensures
 
-pub loop-k-preserved : goal.loop-k-preserved
-loop-k-preserved c =
-    let low : c.loop-k.k < length c.args.order.now = omega arith in
-    next_put (map instance_plain c.args.table.now) c.args.bodies.now c.args.order.now c.loop-k.k c.at.result.now c.numbered_body-body.result.now (entries_seen c.loop-k.entries) (entries_seen c.put_body.new.entries) c.requires.bodies c.requires.order
-    c.names_settle.ensures c.types_settle.ensures c.types_hang_on_paths.ensures c.references_come_before.ensures low c.at.ensures c.numbered_body-body.ensures c.in_ok-put_body.ensures c.loop-k.invariant
+pub loop-number-preserved : goal.loop-number-preserved
+loop-number-preserved c =
+    let t = map instance_plain c.args.table.now in
+    let k = c.loop-number.number-index in
+    let order = c.as_slice-number-items.result.now in
+    let number = slice_index_or order k 0 in
+    let sorted = subst (IsBodyOrder t) (sym c.as_slice-number-items.ensures) c.requires.order in
+    next_put t c.args.bodies.now order k number c.numbered_body-body.result.now (entries_seen c.loop-number.entries) (entries_seen c.put_body.new.entries) c.requires.bodies sorted
+    c.names_settle.ensures c.types_settle.ensures c.types_hang_on_paths.ensures c.references_come_before.ensures c.loop-number-test.true (get_or_default order k 0 number c.loop-number-test.true) c.numbered_body-body.ensures c.in_ok-put_body.ensures
+    c.loop-number.invariant
 
 pub returns : goal.returns
 returns c =
     let t = map instance_plain c.args.table.now in
-    let whole : take c.loop-k.k c.args.order.now ≡ c.args.order.now = take_all c.loop-k.k c.args.order.now (omega arith) in
-    all_held t (entries_seen c.loop-k.entries) c.args.order.now c.requires.order c.names_settle.ensures c.types_settle.ensures c.order_is_complete.ensures
-    (subst (λ order. Holds t (entries_seen c.loop-k.entries) (map (numbered t) order)) whole c.loop-k.invariant)
+    let order = c.as_slice-number-items.result.now in
+    let sorted = subst (IsBodyOrder t) (sym c.as_slice-number-items.ensures) c.requires.order in
+    all_held t (entries_seen c.loop-number.entries) order sorted c.names_settle.ensures c.types_settle.ensures c.order_is_complete.ensures
+    (subst (λ order. Holds t (entries_seen c.loop-number.entries) (map (numbered t) order)) (take_all c.loop-number.number-index order c.loop-number-test.false) c.loop-number.invariant)

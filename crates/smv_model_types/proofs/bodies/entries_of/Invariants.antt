@@ -5,5 +5,5 @@ use Rattle.smv_model_types.specs.Entries.{entries_seen}
 use Rattle.smv_model_types.proofs.Filling.{Holds}
 use Rattle.smv_model_types.proofs.bodies.entries_of.Given as goal
 
-abbrev pub invariant-loop-k : goal.invariant-loop-k
-invariant-loop-k l = Holds (map instance_plain l.table) (entries_seen l.entries) (map (numbered (map instance_plain l.table)) (take l.k l.order))
+abbrev pub invariant-loop-number : goal.invariant-loop-number
+invariant-loop-number l = Holds (map instance_plain l.table) (entries_seen l.entries) (map (numbered (map instance_plain l.table)) (take l.number-index l.number-items))

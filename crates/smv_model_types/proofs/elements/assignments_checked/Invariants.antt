@@ -9,7 +9,7 @@ use Rattle.smv_instances.specs.View.{instance_plain}
 use Rattle.smv_model_types.specs.Targets.{IsTyped}
 use Rattle.smv_model_types.proofs.elements.assignments_checked.Given as goal
 
-abbrev pub invariant-loop-k : goal.invariant-loop-k
-invariant-loop-k l =
-    (first_failing (flat_map (assigned_typing (types_in true (map instance_plain l.table) l.i)) (map plain_assignment (drop l.k l.assignments))) ≡ first_failing (flat_map (assigned_typing (types_in true (map instance_plain l.table) l.i)) (map plain_assignment l.assignments)))
+abbrev pub invariant-loop-assignment : goal.invariant-loop-assignment
+invariant-loop-assignment l =
+    (first_failing (flat_map (assigned_typing (types_in true (map instance_plain l.table) l.i)) (map plain_assignment (drop l.assignment-index l.assignment-items))) ≡ first_failing (flat_map (assigned_typing (types_in true (map instance_plain l.table) l.i)) (map plain_assignment l.assignments)))
     × IsTyped (map instance_plain l.table) l.i l.last

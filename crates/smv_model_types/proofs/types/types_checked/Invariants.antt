@@ -6,5 +6,5 @@ use Rattle.smv_model_types.proofs.types.types_checked.Given as goal
 
 abbrev pub invariant-loop-i : goal.invariant-loop-i
 invariant-loop-i l =
-    first_failing (over_instances (type_checks (names_in (map instance_plain l.table))) l.i (map instance_plain (drop l.i l.table)))
+    first_failing (over_instances (type_checks (names_in (map instance_plain l.table))) l.i (map instance_plain (drop l.i l.part-items)))
     ≡ first_failing (over_instances (type_checks (names_in (map instance_plain l.table))) 0 (map instance_plain l.table))

@@ -1,4 +1,4 @@
-use Rattle.std.proofs.Common.{◌≡◌, ◌+◌, ◌∷◌, ◌++◌, OnOk, map, drop, length, refl, sym, ap, ◌∙◌, subst, append_assoc, arith}
+use Rattle.std.proofs.Common.{◌≡◌, ◌+◌, ◌∷◌, ◌++◌, OnOk, map, drop, length, refl, sym, ap, ◌∙◌, subst, append_assoc}
 use Rattle.smv_meaning.specs.laws.Lists.{front_is}
 use Rattle.smv_meaning.specs.Phases.{body_here}
 use Rattle.smv_meaning.specs.Bodies.{bodies_of, number_or, path_numbers}
