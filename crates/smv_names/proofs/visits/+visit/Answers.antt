@@ -1,5 +1,4 @@
 use Rattle.std.proofs.Common.{◌≡◌, ◌+◌, ◌-◌, ◌∷◌, [], None, map, drop, take, length, refl, sym, ap, ◌∙◌, subst, arith}
-use Rattle.std.specs.Prelude.{slice_index_or}
 use Rattle.std.proofs.lemmas.List.{take-append-le}
 use Rattle.std.proofs.Math.Seq.{take-length}
 use Rattle.smv_text.specs.View.{plain_module}
@@ -51,10 +50,10 @@ visited-returns-in-Err-item_visited-clause-counts t c =
     let list = c.declarations-list.result.now in
     let path = c.args.path.now in
     let f = visits (c.args.deep - 1) ms (c.args.own.now.name ∷ names_above c.args.above.now.items) in
-    let declaration = slice_index_or list c.loop-declaration.declaration-index c.declaration-item.result in
+    let declaration = c.declaration-item.result in
     let d = declared_plain declaration in
     let rest = map declared_plain (drop (c.loop-declaration.declaration-index + 1) list) in
-    let front : map declared_plain (drop c.loop-declaration.declaration-index list) ≡ d ∷ rest = ap (map declared_plain) (front_is list c.loop-declaration.declaration-index (length list) declaration refl (omega arith) (ap (slice_index_or list c.loop-declaration.k) c.declaration-item.is)) in
+    let front : map declared_plain (drop c.loop-declaration.declaration-index list) ≡ d ∷ rest = ap (map declared_plain) (front_is list c.loop-declaration.declaration-index (length list) declaration refl (omega arith) c.declaration-item.is) in
     let vs = item_visits f ms path d.item in
     subst (λ o. IsBad c.in-Err-item_visited.end o) (ap (λ l. first_failing (visit_checks ms c.loop-declaration.count (declared_visits f ms path l))) (sym front) ∙ c.loop-declaration.invariant.checks)
     (ends_in ms c.loop-declaration.count vs (declared_visits f ms path rest) c.in-Err-item_visited.end
@@ -66,10 +65,10 @@ visited-loop-declaration-preserved t c =
     let list = c.declarations-list.result.now in
     let path = c.args.path.now in
     let f = visits (c.args.deep - 1) ms (c.args.own.now.name ∷ names_above c.args.above.now.items) in
-    let declaration = slice_index_or list c.loop-declaration.declaration-index c.declaration-item.result in
+    let declaration = c.declaration-item.result in
     let d = declared_plain declaration in
     let rest = map declared_plain (drop (c.loop-declaration.declaration-index + 1) list) in
-    let front : map declared_plain (drop c.loop-declaration.declaration-index list) ≡ d ∷ rest = ap (map declared_plain) (front_is list c.loop-declaration.declaration-index (length list) declaration refl (omega arith) (ap (slice_index_or list c.loop-declaration.k) c.declaration-item.is)) in
+    let front : map declared_plain (drop c.loop-declaration.declaration-index list) ≡ d ∷ rest = ap (map declared_plain) (front_is list c.loop-declaration.declaration-index (length list) declaration refl (omega arith) c.declaration-item.is) in
     let vs = item_visits f ms path d.item in
     let passed : first_failing (visit_checks ms c.loop-declaration.count vs) ≡ None =
     ap (λ a. first_failing (visit_checks ms c.loop-declaration.count (item_visits (visits (c.args.deep - 1) ms a) ms path d.item))) (sym c.loop-declaration.invariant.above) ∙ c.in-Ok-item_visited.ensures.counts.0 in
