@@ -40,10 +40,8 @@ pub fn give_changes<'a>(changes: &'a [Change], stated: &mut Vec<Option<&'a Value
     ensures size { length stated.new.items ≡ length stated.old.items }
     ensures values { map stated_value stated.new.items ≡ stated_by (map stated_value stated.old.items) changes.now }
 {
-    let mut rest = changes;
-    while let Some((change, more)) = rest.split_first() {
+    for change in changes {
         give_change(change, stated);
-        rest = more;
     }
 }
 

@@ -64,8 +64,8 @@ fn values_of(
     ensures { IfOk result (λ state. state ≡ values_of heading (map item_plain items.now) (map stated_value stated.now)) }
 {
     let mut state = State::with_capacity(alloc, room)?;
-    for k in 0..items.len() {
-        add_given(alloc, &mut state, heading, &items[k], stated[k])?;
+    for (item, value) in items.iter().zip(stated) {
+        add_given(alloc, &mut state, heading, item, *value)?;
     }
     Ok(state)
 }
@@ -121,8 +121,7 @@ fn list_run<'a>(
         stated.as_slice(),
         &mut run.states,
     )?;
-    let mut rest = following;
-    while let Some((end, more)) = rest.split_first() {
+    for end in following {
         give_changes(changes_between(changes, at, *end), stated);
         add_values(
             alloc,
@@ -139,7 +138,6 @@ fn list_run<'a>(
             &mut run.states,
         )?;
         at = *end;
-        rest = more;
     }
     Ok(())
 }
