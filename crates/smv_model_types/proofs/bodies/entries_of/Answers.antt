@@ -1,8 +1,8 @@
-use Rattle.std.proofs.Common.{◌≡◌, ◌<◌, List, map, length, take, sym, subst}
+use Rattle.std.proofs.Common.{map, sym, subst}
 use Rattle.std.specs.Prelude.{slice_index_or}
 use Rattle.std.proofs.lemmas.List.{get_or_default, take_all}
-use Rattle.smv_meaning.specs.Orders.{numbered}
 use Rattle.smv_meaning.specs.Bodies.{IsBodyOrder}
+use Rattle.smv_meaning.specs.Orders.{numbered}
 use Rattle.smv_instances.specs.View.{instance_plain}
 use Rattle.smv_model_types.specs.Entries.{entries_seen}
 use Rattle.smv_model_types.proofs.Filling.{Holds, none_held, all_held}
