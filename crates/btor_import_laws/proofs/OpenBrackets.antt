@@ -27,7 +27,7 @@ use Rattle.btor_import_laws.specs.Laws.{BracketsAreFew}
 use Rattle.moxi_script_print.proofs.Depths.{joined_depths, lists_depth, queries_depth}
 use Rattle.moxi_scripts.specs.Valid.{check_variables, formula_names}
 use Rattle.moxi_terms.specs.Applications.{all_term}
-use Rattle.moxi_script_print.proofs.Brackets.{open_brackets, all_brackets, term_depth}
+use Rattle.moxi_script_print.proofs.OpenBrackets.{open_brackets, all_brackets, term_depth}
 
 -- ---- the terms of lines
 

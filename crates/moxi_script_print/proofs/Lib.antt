@@ -23,4 +23,4 @@ pub mod Pieces
 pub mod Depths
 pub mod SpelledCommands
 pub mod Assembled
-pub mod Brackets
+pub mod OpenBrackets

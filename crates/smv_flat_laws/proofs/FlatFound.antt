@@ -17,7 +17,9 @@ use Rattle.smv_meaning.specs.Phases.{over_instances}
 use Rattle.smv_items.specs.FlatItems.{Content, variable, definition, actual, Origin, with_content, actual_content, actual_items, domain_content, variable_item, definition_item, element_items, items_here, origins_of, member_symbols, domain_symbols, element_symbols, gathered, symbols_of, is_variable_as, is_body, path_of}
 use Rattle.smv_flat_laws.proofs.FlatPlaces.{first, At, first_at, first_left, first_right, any_left, any_right, none_joined, any_first}
 use Rattle.smv_laws.proofs.Cycles.{right_true}
-use Rattle.smv_flat_laws.proofs.FlatNames.{bytes_self}
+
+pub bytes_self : (x : List ℕ) → bytes_eq x x ≡ true
+bytes_self x = (bytes_eq-Decides x x).1 refl
 
 -- ---- bodies
 

@@ -19,7 +19,7 @@ use Rattle.smv_laws.proofs.Cycles.{same_is, same_self}
 use Rattle.smv_laws.proofs.Ranked.{key, actual_keys, element_keys, keys_in, keys_of}
 use Rattle.smv_laws.proofs.OrderLaws.{place}
 use Rattle.smv_flat_laws.proofs.FlatPlaces.{position_cons}
-use Rattle.smv_flat_laws.proofs.FlatFound.{is_body_of, both}
+use Rattle.smv_flat_laws.proofs.FlatFound.{is_body_of, both, bytes_self}
 
 -- ---- what an item's name stands for in its instance
 
@@ -34,9 +34,6 @@ LocalAs g m = IsLocal (g m.name) m.content
 
 abbrev own_name : ℕ → List ℕ → List ℕ
 own_name i x = x
-
-pub bytes_self : (x : List ℕ) → bytes_eq x x ≡ true
-bytes_self x = (bytes_eq-Decides x x).1 refl
 
 -- where two readings of names agree on the items' names
 passed_on : (f g : List ℕ → Local) (Q : List ℕ → Type 0) (ms : List Origin) → ((x : List ℕ) → Q x → g x ≡ f x) → AllByRecursion (λ m. Q m.name) ms → AllByRecursion (LocalAs f) ms → AllByRecursion (LocalAs g) ms

@@ -36,7 +36,7 @@ use Rattle.smv_script_laws.proofs.Charges.{all_append, IsLow, EachPart, DomainEa
 use Rattle.smv_script_laws.proofs.Instances.{source_fits}
 use Rattle.smv_script_laws.proofs.Prices.{HoldsOfForms, forms_all}
 use Rattle.moxi_terms.specs.Applications.{equal_term, all_term}
-use Rattle.moxi_script_print.proofs.Brackets.{open_brackets, all_brackets}
+use Rattle.moxi_script_print.proofs.OpenBrackets.{open_brackets, all_brackets}
 
 -- a part of a formula
 pub record IsLowTerm (t : Tree) : Type 0 where

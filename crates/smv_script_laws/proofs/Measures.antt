@@ -4,7 +4,7 @@ use Rattle.smv_text.specs.Tree.{Tree as Expression, truth, number, literal, name
 use Rattle.moxi_terms.specs.Tree.{Tree, Trees, no_trees, tree}
 use Rattle.moxi_flat.specs.Terms.{term_size, terms_size, term_height, terms_height}
 use Rattle.smv_script.specs.Terms.{Translation}
-use Rattle.moxi_script_print.proofs.Brackets.{open_brackets, all_brackets}
+use Rattle.moxi_script_print.proofs.OpenBrackets.{open_brackets, all_brackets}
 
 -- ---- the least number of tokens
 

@@ -15,7 +15,7 @@ use Rattle.smv_script_laws.specs.BoundLaws.{BracketsAreFew}
 use Rattle.smv_script_laws.proofs.Lows.{FormsFit, FormulasLow, formula_low, all_reachables_low, source_forms_fit}
 use Rattle.moxi_script_print.proofs.Depths.{joined_depths, lists_depth, queries_depth, symbols_depth}
 use Rattle.moxi_scripts.specs.Valid.{check_variables, formula_names}
-use Rattle.moxi_script_print.proofs.Brackets.{open_brackets, term_depth}
+use Rattle.moxi_script_print.proofs.OpenBrackets.{open_brackets, term_depth}
 
 -- ---- systems
 
