@@ -170,8 +170,10 @@ fn fill_bodies<'a>(
     ensures size { length values.new.items ≡ length values.old.items }
     ensures row { row_values values.new.items ≡ filled (bodies_in bodies.now) (symbol_value symbols.now) (row_values values.old.items) order.now }
 {
-    for k in order {
+    let mut rest = order;
+    while let Some((k, more)) = rest.split_first() {
         fill_body(symbols, bodies[*k], *k, values);
+        rest = more;
     }
 }
 
