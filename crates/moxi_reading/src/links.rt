@@ -67,11 +67,11 @@ fn sort_at(l: &Lists, i: usize) -> Option<Sort>
 }
 
 // Tests the sorts of actuals.
-#[tactic(auto, using(moxi_attributes::specs::laws::Collecting::also_append))]
 fn test_actuals(lists: &Lists, actuals: &List<Actual>, found: &mut Option<Refusal>)
     ensures { found.new ≡ also found.old (actuals_clash lists.now 0 actuals.now) }
 {
-    for (i, a) in actuals.iter().enumerate() {
+    for i in 0..actuals.len() {
+        let a = actuals.at(i);
         test_clash(found, a.sort, sort_at(lists, i), a.place);
     }
 }

@@ -3,7 +3,7 @@ use Rattle.std.proofs.Common.{◌≡◌, Bool, true, false, List, [], ◌∷◌,
 use Rattle.text_core.specs.declared.end.End.{End}
 use Rattle.text_core.specs.declared.place.Refusal.{Refusal}
 use Rattle.smv_meaning.specs.Checks.{Check, passes, first_failing, IsBad}
-use Rattle.smv_names.specs.laws.Composing as composing
+use Rattle.smv_meaning.specs.laws.Composing as composing
 
 pub ends : (e : End) (xs ys : List Check) → IsBad e (first_failing xs) → IsBad e (first_failing (xs ++ ys))
 ends e xs ys h = composing.ends e xs ys h
