@@ -1,9 +1,8 @@
 // Computes words as their lines say, and fills the row of frame 0, in the order of the lines.
-ghost use Rattle.std.specs.Prelude.{◌≡◌, ◌<◌, ◌≤◌, ◌+◌, ◌^◌, ℕ, Bool, true, false, if◌then◌else◌, List, length, take, Some, None, slice_get, slice_set, IfSome};
-ghost use Rattle.word_core.specs.Words.{BitVector, IsWord};
+ghost use Rattle.std.specs.Prelude.{◌≡◌, ◌<◌, ◌≤◌, ◌+◌, ◌^◌, true, if◌then◌else◌, length, take, Some, None, slice_get, slice_set, IfSome};
 ghost use Rattle.word_core.specs.Table.{unary_of, binary_of, ite_of, slice_of, uext_of, sext_of, BinaryFits};
 ghost use Rattle.btor_tree.specs.Fits.{IsWellFormed, OnOne, OnTwo, OnThree, count_of, is_constant, is_init, is_input, is_state, kind_at, state_value};
-ghost use Rattle.btor_tree.specs.Frame.{nothing, operand, init_operand, signed_word, word_at, read_or, IsFrame};
+ghost use Rattle.btor_tree.specs.Frame.{nothing, operand, init_operand, signed_word, read_or, IsFrame};
 ghost use Rattle.btor_tree.proofs.Words.{computed};
 ghost use Rattle.btor_tree.proofs.Rows.{row_upto};
 ghost use Rattle.btor_tree.proofs.Paths.{constant_at, pick, given_of};

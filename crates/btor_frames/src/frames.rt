@@ -1,7 +1,7 @@
 // The current frame, one row of words.
-ghost use Rattle.std.specs.Prelude.{◌≡◌, ◌<◌, ◌↔◌, ℕ, Bool, true, false, List, length, IfOk, IsTrue};
+ghost use Rattle.std.specs.Prelude.{◌≡◌, ◌<◌, ◌↔◌, true, false, List, length, IfOk, IsTrue};
 ghost use Rattle.word_core.specs.Words.{BitVector};
-ghost use Rattle.btor_tree.specs.Fits.{count_of, is_bad, is_constraint};
+ghost use Rattle.btor_tree.specs.Fits.{count_of, is_bad};
 ghost use Rattle.btor_tree.specs.Frame.{word_at, operand, true_word, ConstraintsHold, IsBad};
 ghost use Rattle.btor_frames.specs.Steps.{IsStep, SuppliedFit};
 ghost use Rattle.btor_frames.specs.Held.{Held, FramesFit};

@@ -1,5 +1,5 @@
 // The words that the caller gives for inputs, and for states without an init or next.
-ghost use Rattle.std.specs.Prelude.{◌≡◌, ◌<◌, ◌+◌, ◌^◌, ◌↔◌, ℕ, Bool, true, false, if◌then◌else◌, List, length, take, Some, slice_get, IfSome, IsTrue};
+ghost use Rattle.std.specs.Prelude.{◌≡◌, ◌<◌, ◌+◌, ◌^◌, ◌↔◌, true, false, if◌then◌else◌, length, take, slice_get, IfSome, IsTrue};
 ghost use Rattle.word_core.specs.Words.{IsWord};
 ghost use Rattle.btor_tree.specs.Fits.{IsWellFormed, count_of, is_input, is_state};
 ghost use Rattle.btor_tree.specs.Frame.{word_at, GivenFits};

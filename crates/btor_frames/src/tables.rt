@@ -1,7 +1,7 @@
 // The inits of states, the sources of words in later frames, and the arguments of bad and constraint lines, found once
 // for all frames.
-ghost use Rattle.std.specs.Prelude.{◌≡◌, ◌<◌, ◌++◌, Bool, true, false, List, length, get_or, slice_get, None, Some, IfOk, OnOk, if◌then◌else◌};
-ghost use Rattle.btor_tree.specs.Fits.{AreEarlier, IsWellFormed, operands};
+ghost use Rattle.std.specs.Prelude.{◌≡◌, ◌<◌, ◌++◌, List, length, get_or, slice_get, None, Some, IfOk, OnOk, if◌then◌else◌};
+ghost use Rattle.btor_tree.specs.Fits.{AreEarlier, operands};
 ghost use Rattle.btor_frames.specs.Tables.{has_role, HoldsNone, HoldsValues, IsFoundIn, line_operands, noted};
 
 use crate::sources::{Source, sources};

@@ -1,5 +1,5 @@
 -- What a loop over lines has made so far, and what is left.
-use Rattle.std.proofs.Common.{◌≡◌, ℕ, zero, suc, ◌+◌, Bool, true, false, List, [], ◌∷◌, ◌++◌, map, drop, length, Some, if◌then◌else◌, refl, sym, ap, ◌∙◌, arith, append_assoc, append-nil, ◌-◌, ◌<◌, ◌≤◌}
+use Rattle.std.proofs.Common.{◌≡◌, ℕ, zero, suc, ◌+◌, Bool, true, false, List, [], ◌∷◌, ◌++◌, map, drop, length, Some, if◌then◌else◌, refl, sym, ap, ◌∙◌, arith, append_assoc, ◌-◌, ◌<◌}
 use Rattle.std.specs.Prelude.{slice_get}
 use Rattle.std.proofs.lemmas.Option.{same_Some, none-some}
 use Rattle.btor_tree.specs.declared.lines.Line.{Line}
@@ -92,9 +92,3 @@ pub bits_on : (w i : ℕ) (a : Tree) (old new total : List Tree) → i < w → n
 bits_on w i a old new total h m k =
     ap (λ xs. xs ++ bits_from (i + 1) (w - (i + 1)) a) m ∙ put old (apply (op.Extract i i) (one a)) (bits_from (i + 1) (w - (i + 1)) a)
     ∙ ap (λ n. old ++ bits_from i n a) (let e : suc (w - (i + 1)) ≡ w - i = omega (arith, h) in e) ∙ k
-
-pub bits_done : (w i : ℕ) (a : Tree) (all total : List Tree) → w ≤ i → all ++ bits_from i (w - i) a ≡ total → all ≡ total
-bits_done w i a all total h k = sym (append-nil all) ∙ ap (λ n. all ++ bits_from i n a) (let e : 0 ≡ w - i = omega (arith, h) in e) ∙ k
-
-pub bits_begun : (w : ℕ) (a : Tree) → [] ++ bits_from 0 (w - 0) a ≡ bits_from 0 w a
-bits_begun w a = ap (λ n. bits_from 0 n a) (let e : w - 0 ≡ w = omega arith in e)

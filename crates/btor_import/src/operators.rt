@@ -4,7 +4,7 @@ ghost use Rattle.word_core.specs.Words.{IsWord};
 ghost use Rattle.moxi_terms.specs.Tree.{apply};
 ghost use Rattle.moxi_terms.specs.View.{plain};
 ghost use Rattle.btor_import.specs.Operators.{falsity_term, is_one, not_term, truth_term, word_term};
-ghost use Rattle.moxi_terms.specs.Applications.{one, two, words_term, equal_term, choice_term, all_term};
+ghost use Rattle.moxi_terms.specs.Applications.{one, two, equal_term, choice_term, all_term};
 
 use moxi_terms::{Datum, Term, TermOp, Terms};
 use std::alloc::Global;

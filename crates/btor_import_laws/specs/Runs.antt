@@ -1,9 +1,9 @@
 -- Frames of lines with a bad line true in the last one (BTOR2, CAV 2018), and traces of their script (MoXI, SPIN 2024).
-use Rattle.std.specs.Prelude.{◌≡◌, ℕ, ◌+◌, ◌≤◌, true, List, [], ◌∷◌, length, slice_get, slice_index_or, Some}
+use Rattle.std.specs.Prelude.{◌≡◌, ℕ, ◌≤◌, true, List, [], slice_get, slice_index_or, Some}
 use Rattle.word_core.specs.Words.{BitVector}
 use Rattle.btor_tree.specs.declared.lines.Line.{Line}
 use Rattle.btor_tree.specs.Fits.{has_word}
-use Rattle.btor_tree.specs.Frame.{AreFrames, IsBad, word_at}
+use Rattle.btor_tree.specs.Frame.{word_at}
 use Rattle.moxi_terms.specs.declared.data.Datum.TheVariants.{Bits}
 use Rattle.moxi_scripts.specs.declared.script.Query.{Query}
 use Rattle.moxi_scripts.specs.Behaviour.{Trace}

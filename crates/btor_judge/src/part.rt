@@ -1,5 +1,5 @@
 // The stated words in one part of a frame.
-ghost use Rattle.std.specs.Prelude.{◌≡◌, ◌<◌, ◌+◌, [], List, ℕ, false, length, get_or, IfOk};
+ghost use Rattle.std.specs.Prelude.{◌≡◌, ◌<◌, ◌+◌, [], List, false, length, get_or, IfOk};
 ghost use Rattle.btor_witness.specs.declared.witness.Stated.{Stated};
 ghost use Rattle.btor_witness.specs.Parts.{stating};
 ghost use Rattle.btor_witness.specs.Room.{AreWidths};

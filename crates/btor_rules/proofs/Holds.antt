@@ -80,9 +80,6 @@ record Both (row : List BitVector) (x y : Operand) : Type 0 where
   right : IsRead row y
   widths : x.width ≡ y.width
 
-left_width : (row : List BitVector) (x y : Operand) → Both row x y → (operand row x.arg).width ≡ x.width
-left_width row x y b = b.left.width
-
 same_widths : (row : List BitVector) (x y : Operand) → Both row x y → (operand row x.arg).width ≡ (operand row y.arg).width
 same_widths row x y b = b.left.width ∙ b.widths ∙ sym b.right.width
 
@@ -152,9 +149,6 @@ xor_gives row x y v b e =
     (λ m. choose _ (as_it_is y) _ row v
     (λ h. e ∙ vector_is a.width c.width _ c.bits (same_widths row x y b) (ap (λ n. bit_xor n c.bits) (number_read row x 0 b.left h) ∙ zero_xor c.bits))
     (λ l. tt))))
-
-bit_equal : (m n : ℕ) → m ≡ n → eqb m n ≡ true
-bit_equal m n h = eq-eqb m n h
 
 differ : (m n : ℕ) → (m ≡ n → ⊥) → eqb m n ≡ false
 differ m n h = elim (cases_Bool (eqb m n)) [ inl t ↦ absurd (h (eqb-true m n t)) | inr f ↦ f ]

@@ -2,9 +2,8 @@
 use Rattle.std.specs.Prelude.{◌≡◌, ◌⊎◌, ℕ, List, IfSome, ◌+◌, ◌-◌}
 use Rattle.word_core.specs.Words.{BitVector, IsWord}
 use Rattle.word_core.specs.Table.{unary_width, binary_width}
-use Rattle.btor_tree.specs.declared.args.Arg.{Arg}
 use Rattle.btor_tree.specs.declared.lines.LineOp.{LineOp}
-use Rattle.btor_tree.specs.declared.lines.LineOp.TheVariants.{Unary, Binary, Ite, Slice, Uext, Sext}
+use Rattle.btor_tree.specs.declared.lines.LineOp.TheVariants.{Unary, Binary, Slice, Uext, Sext}
 use Rattle.btor_tree.specs.Frame.{operand, word_at}
 use Rattle.btor_rules.specs.declared.operand.Operand.{Operand}
 use Rattle.btor_rules.specs.declared.operand.Operands.{Operands}

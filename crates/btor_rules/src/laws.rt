@@ -1,5 +1,5 @@
 // Laws of the rules.
-ghost use Rattle.std.specs.Prelude.{◌≡◌, ℕ, List};
+ghost use Rattle.std.specs.Prelude.{ℕ, List};
 ghost use Rattle.word_core.specs.Words.{BitVector};
 ghost use Rattle.btor_tree.specs.declared.lines.Line.{Line};
 ghost use Rattle.btor_tree.specs.declared.lines.LineOp.{LineOp};

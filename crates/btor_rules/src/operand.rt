@@ -1,5 +1,5 @@
 // The operands of an operator line, and the outcome of a rule.
-ghost use Rattle.std.specs.Prelude.{◌≡◌, ◌≤◌, ◌-◌, ◌^◌};
+ghost use Rattle.std.specs.Prelude.{◌≡◌, ◌≤◌, ◌-◌};
 ghost use Rattle.word_core.specs.declared.word.TheConstants.{WIDEST};
 ghost use Rattle.btor_tree.specs.Sharing.{same_arg};
 ghost use Rattle.btor_rules.specs.Rules as spec;

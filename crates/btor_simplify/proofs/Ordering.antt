@@ -254,9 +254,6 @@ marked_next marks i q old new have keeps here j lt m =
       | inr ge ↦ let same : j ≡ i = omega (arith, lt, ge) in (q, ap (λ n. get_or new n None) same ∙ here)
     ]
 
-pub marked_kept : (marks : List Bool) (i : ℕ) (old new : List (Option ℕ)) → HaveMarkedMoved marks i old → KeepsPlaces old new → HaveMarkedMoved marks i new
-marked_kept marks i old new have keeps j lt m = let g = have j lt m in (g.0, keeps j g.0 g.1)
-
 pub marked_skip : (marks : List Bool) (i : ℕ) (moved : List (Option ℕ)) → HaveMarkedMoved marks i moved → is_marked marks i ≡ false → HaveMarkedMoved marks (i + 1) moved
 marked_skip marks i moved have n j lt m =
     elim (cases_lt j i) [

@@ -5,16 +5,14 @@ use Rattle.text_core.specs.declared.place.Refusal.{Refusal}
 use Rattle.text_core.specs.declared.verdict.Clause.{Clause}
 use Rattle.text_core.specs.declared.verdict.Clause.TheVariants.{StateDiffers, ConstraintFails, NotBroken}
 use Rattle.text_core.specs.declared.verdict.Verdict.{Verdict}
-use Rattle.text_core.specs.declared.verdict.Verdict.TheVariants.{Yes}
 use Rattle.word_core.specs.Words.{BitVector}
 use Rattle.btor_tree.specs.declared.lines.Line.{Line}
 use Rattle.btor_tree.specs.Fits.{IsWellFormed}
 use Rattle.btor_tree.specs.Parts.{line_place}
 use Rattle.btor_frames.specs.Judged.{Statement, IsStatedFrame}
-use Rattle.btor_witness.specs.declared.witness.Witness.{Witness}
-use Rattle.btor_witness.specs.Judging.{is_last, statements_of, Passes, FailsFirst, IsJudgedAfter, judged_btor}
+use Rattle.btor_witness.specs.Judging.{is_last, statements_of, Passes, FailsFirst, IsJudgedAfter}
 use Rattle.btor_witness.specs.Sizes.{Sizes, most_bytes}
-use Rattle.btor_witness.specs.Texts.{ReadsText, RefusesText, SpellsWitness}
+use Rattle.btor_witness.specs.Texts.{ReadsText, RefusesText}
 use Rattle.btor_simplify.specs.Words.{KeepsWords}
 use Rattle.btor_simplify.specs.Witnesses.{KeepsWitnesses}
 use Rattle.btor_simplify.proofs.WitnessesPlaces.{sizes_same}
@@ -75,7 +73,3 @@ keeps_witnesses old new wo wn k =
             0 false [] [] (statements_of w) v tt h,
       );
     }
-
--- a witness for the new lines is one for the old lines
-pub witness_back : (old new : List Line) (text : List ℕ) (w : Witness) → KeepsWitnesses old new → SpellsWitness new text w → judged_btor new w Yes → SpellsWitness old text w × judged_btor old w Yes
-witness_back old new text w k s h = ((k.spelled text w).1 s, (k.judged w Yes).1 h)

@@ -1,5 +1,5 @@
 // The content of a line, as a key of an ordered map.
-ghost use Rattle.std.specs.Prelude.{◌≡◌, ◌≤◌, ℕ, length, slice_index_or, IfOk, OnErr};
+ghost use Rattle.std.specs.Prelude.{◌≡◌, slice_index_or, IfOk, OnErr};
 ghost use Rattle.std.specs.BTreeMap.{IsUnchanged, get};
 ghost use Rattle.btor_tree.specs.Fits.{plain_arg};
 ghost use Rattle.btor_tree.specs.Sharing.{op_kind, op_number, op_second};

@@ -1,5 +1,5 @@
 // The fate of each line: it stays, it is a constant, or it is replaced by an argument.
-ghost use Rattle.std.specs.Prelude.{◌≡◌, ◌≤◌, ◌<◌, true, ◌++◌, ◌∷◌, [], length, Some, slice_get, map, IfOk};
+ghost use Rattle.std.specs.Prelude.{◌≡◌, ◌≤◌, ◌<◌, true, ◌++◌, ◌∷◌, [], length, Some, map, IfOk};
 ghost use Rattle.std.specs.BTreeMap.{get};
 ghost use Rattle.btor_tree.specs.Fits.{IsWellFormed, sort_at, width_at};
 ghost use Rattle.btor_tree.specs.LineKeys.{EntersKey, IsShort};

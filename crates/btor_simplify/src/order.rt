@@ -1,5 +1,5 @@
 // The order of the lines that stay, with each sort line before the first line that uses it.
-ghost use Rattle.std.specs.Prelude.{◌≡◌, ◌<◌, ◌+◌, ◌^◌, ◌++◌, ◌∷◌, ℕ, [], true, false, length, Some, None, slice_get, slice_set, get_or, IfOk, OnOk};
+ghost use Rattle.std.specs.Prelude.{◌≡◌, ◌<◌, ◌+◌, ◌^◌, ◌++◌, ◌∷◌, [], true, false, length, Some, None, slice_get, slice_set, get_or, IfOk, OnOk};
 ghost use Rattle.btor_simplify.specs.Fates as fates_spec;
 ghost use Rattle.btor_simplify.specs.Marks.{AreKnown, AreMarks};
 ghost use Rattle.btor_simplify.specs.Order as spec;

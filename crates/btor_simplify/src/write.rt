@@ -2,7 +2,7 @@
 ghost use Rattle.std.specs.Prelude.{◌≡◌, ◌<◌, ◌+◌, ◌^◌, true, length, map, IfOk, OnOk};
 ghost use Rattle.btor_tree.specs.Fits.{IsWellFormed};
 ghost use Rattle.btor_tree.specs.LineKeys.{IsShort};
-ghost use Rattle.btor_simplify.specs.Fates.{AreThere, fate_at, replaced};
+ghost use Rattle.btor_simplify.specs.Fates.{AreThere, replaced};
 ghost use Rattle.btor_simplify.specs.Marks.{AreKnown, args_by};
 ghost use Rattle.btor_simplify.specs.Order.{IsOrder, has_sort};
 ghost use Rattle.btor_simplify.specs.Written as spec;

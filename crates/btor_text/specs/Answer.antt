@@ -23,13 +23,13 @@ kind_of wide_sort = B 6
 kind_of twice = B 7
 kind_of init_late = B 8
 
--- these lines, or want of memory
+-- these lines, or out of memory
 abbrev pub Gives : List Line → Result (List Line) End → Type 0
 Gives lines (Ok nodes) = nodes ≡ lines
 Gives lines (Err (Bad r)) = ⊥
 Gives lines (Err NoMemory) = Unit {0}
 
--- this fault at the place of this line, or want of memory
+-- this fault at the place of this line, or out of memory
 abbrev pub Stops : List ℕ → Fault → ℕ → Result (List Line) End → Type 0
 Stops text fault at (Ok nodes) = ⊥
 Stops text fault at (Err (Bad r)) = (r.kind ≡ kind_of fault) × (r.place ≡ line_place text at)

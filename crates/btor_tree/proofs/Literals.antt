@@ -16,7 +16,8 @@ use Rattle.btor_tree.specs.Shapes.{Base, in_binary, in_decimal, in_hex, is_negat
 use Rattle.btor_tree.specs.Resolving.{minus_word, literal_word}
 use Rattle.btor_tree.proofs.Widths.{IsOfWidth}
 use Rattle.text_core.proofs.Truths.{cond_some, then_some}
-use Rattle.word_core.proofs.BinaryDigits.{digit_fact, digits_long, number_back}
+use Rattle.text_core.proofs.BinaryLemmas.{digits_long}
+use Rattle.word_core.proofs.BinaryDigits.{digit_fact, number_back}
 
 fitted_is : (w n : ℕ) (c : BitVector) → 1 ≤ w → w ≤ WIDEST → fitted w n ≡ Some c → IsOfWidth c w
 fitted_is w n c low high e =
@@ -103,12 +104,13 @@ value_of_some (x ∷ xs) h = refl
 
 -- the digits of a word spell it
 literal_here : (c : BitVector) → IsWord c → literal_word in_binary c.width (binary_digits c.width c.bits) ≡ Some c
+unfolding binary_digits
 literal_here c h =
     let digits = binary_digits c.width c.bits in
     let long = digits_long c.width c.bits in
     cond-true (eqb (length digits) c.width) _ _ (eq-eqb (length digits) c.width long)
     ∙ cond-true (leb 1 c.width && leb c.width WIDEST) _ _ (and_from (leb 1 c.width) (leb c.width WIDEST) (le-leb 1 c.width h.0) (le-leb c.width WIDEST h.1))
-    ∙ ap (option_and_then (fitted c.width)) (value_of_some digits (omega (arith, long, h.0)) ∙ number_back c.width c.bits h.2)
+    ∙ ap (option_and_then (fitted c.width)) (value_of_some digits (omega (arith, long, h.0)) ∙ number_back binary_digits (λ n. refl) (λ w n. refl) c.width c.bits h.2)
     ∙ cond-true (ltb c.bits (2 ^ c.width)) _ _ (lt-ltb c.bits (2 ^ c.width) h.2)
 
 pub literal_again : (c : BitVector) (w : ℕ) → IsWord c → c.width ≡ w → literal_word in_binary w (binary_digits c.width c.bits) ≡ Some c

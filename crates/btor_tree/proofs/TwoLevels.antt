@@ -44,9 +44,6 @@ has_same lines old new slots others has =
       behind = λ q e. others q ∙ has.behind q (sym (slots (slot_of q)) ∙ e);
     }
 
-pub slots_same : (lines : List Line) (old new : LinePlaces) → ((i : ℕ) → get_or new.slots.items i None ≡ get_or old.slots.items i None) → new.others ≡ old.others → HasPlaces lines old → HasPlaces lines new
-slots_same lines old new slots others has = has_same lines old new slots (λ q. ap (λ o. get key_cmp o q) others) has
-
 pub others_same : (lines : List Line) (old new : LinePlaces) → new.slots ≡ old.slots → IsUnchanged old.others new.others → HasPlaces lines old → HasPlaces lines new
 others_same lines old new slots h has =
     has_same lines old new (λ i. ap (λ fs. get_or fs.items i None) slots) (λ q. ap (lookup (is_at (key_cmp q))) h) has

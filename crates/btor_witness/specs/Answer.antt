@@ -18,13 +18,13 @@ use Rattle.btor_witness.specs.Texts.{RefusesText, RefusesWitness}
 abbrev pub IsAt : List ℕ → Refusal → Kind → ℕ → Type 0
 IsAt text refusal kind at = (refusal.kind ≡ kind) × (refusal.place ≡ line_place text at)
 
--- this witness, or want of memory
+-- this witness, or out of memory
 abbrev pub Gives : Witness → Result Witness End → Type 0
 Gives w (Ok witness) = witness ≡ w
 Gives w (Err (Bad refusal)) = ⊥
 Gives w (Err NoMemory) = Unit {0}
 
--- this refusal, or want of memory
+-- this refusal, or out of memory
 abbrev pub Stops : List ℕ → Kind → ℕ → Result Witness End → Type 0
 Stops text kind at (Ok witness) = ⊥
 Stops text kind at (Err (Bad refusal)) = IsAt text refusal kind at

@@ -1,6 +1,6 @@
 // The statements in one part of a frame.
-ghost use Rattle.std.specs.Prelude.{◌≡◌, ◌<◌, ◌≤◌, [], List, ℕ, length, IfOk, OnOk, MatchResult, Ok, false};
-ghost use Rattle.btor_witness.specs.Parts.{PartState, stating, is_stated};
+ghost use Rattle.std.specs.Prelude.{◌≡◌, ◌<◌, [], List, length, IfOk, OnOk, Ok, false};
+ghost use Rattle.btor_witness.specs.Parts.{PartState, stating};
 ghost use Rattle.btor_witness.specs.Held.{IsCleared, AreStatedAt, AreMarked};
 ghost use Rattle.btor_witness.specs.Answer.{Added};
 

@@ -1,9 +1,9 @@
 // The printer.
-ghost use Rattle.std.specs.Prelude.{◌≡◌, ◌<◌, ◌≤◌, ◌+◌, ◌++◌, ◌∷◌, [], ◌^◌, length, map, replicate, None, decimal, codes, OnOk, IfOk};
+ghost use Rattle.std.specs.Prelude.{◌≡◌, ◌<◌, ◌+◌, ◌++◌, None, OnOk, IfOk};
 ghost use Rattle.std.specs.List.{flat_map, AllByRecursion};
 ghost use Rattle.btor_tree.specs.Fits.{is_state, is_input};
 ghost use Rattle.btor_witness.specs.Sizes.{sizes_of, widths_of};
-ghost use Rattle.btor_witness.specs.Printing.{IsBelow, IsPart, IsWitness, IsWithinLimits, TableOf, rises_from, rising, rising_frame, rising_witness, number_line, statement_line, states_text, inputs_text, frame_text, frames_text, printed};
+ghost use Rattle.btor_witness.specs.Printing.{IsBelow, IsPart, IsWitness, IsWithinLimits, TableOf, rises_from, rising, rising_frame, rising_witness, number_line, statement_line, states_text, frame_text, printed};
 ghost use Rattle.btor_witness.specs.Texts.{SpellsWitness};
 
 use crate::unique::printed_is_read;

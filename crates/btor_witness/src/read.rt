@@ -1,11 +1,10 @@
 // The reader of a whole text.
-ghost use Rattle.std.specs.Prelude.{◌≡◌, ◌≤◌, ◌<◌, ◌^◌, ℕ, List, length, true, IfOk, IfErr};
+ghost use Rattle.std.specs.Prelude.{◌≡◌, ◌≤◌, ◌<◌, ◌^◌, ℕ, length, true, IfOk, IfErr};
 ghost use Rattle.text_core.specs.declared.place.Kind.{Kind};
-ghost use Rattle.btor_tree.specs.declared.lines.Line.{Line};
 ghost use Rattle.btor_witness.specs.declared.witness.Witness.{Witness};
 ghost use Rattle.btor_witness.specs.Sizes.{sizes_of, is_within};
 ghost use Rattle.btor_witness.specs.Printing.{IsWitness};
-ghost use Rattle.btor_witness.specs.Texts.{ReadsText, RefusesText, SpellsWitness, RefusesWitness};
+ghost use Rattle.btor_witness.specs.Texts.{ReadsText, SpellsWitness, RefusesWitness};
 ghost use Rattle.btor_witness.specs.Answer.{Gives, Stops, IsRefused, IsRefusedLine};
 
 use crate::ends::LineEnd;

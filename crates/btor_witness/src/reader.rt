@@ -1,10 +1,10 @@
 // The reader of a witness, line by line.
-ghost use Rattle.std.specs.Prelude.{◌≡◌, ℕ, ◌<◌, ◌≤◌, ◌++◌, ◌∷◌, [], length, map, IfOk, OnOk, OnErr};
+ghost use Rattle.std.specs.Prelude.{◌≡◌, ℕ, ◌<◌, [], IfOk, OnOk};
 ghost use Rattle.btor_tree.specs.Fits as fits;
 ghost use Rattle.btor_witness.specs.Bytes.{line_parts};
 ghost use Rattle.btor_witness.specs.Sizes.{sizes_of, widths_of, is_within};
 ghost use Rattle.btor_witness.specs.declared.shape.Shape.TheVariants as line;
-ghost use Rattle.btor_witness.specs.Reading.{Reading, begin, frames_of, new_frame, step};
+ghost use Rattle.btor_witness.specs.Reading.{begin, frames_of, new_frame, step};
 ghost use Rattle.btor_witness.specs.Texts.{next_of};
 ghost use Rattle.btor_witness.specs.Answer.{ReaderState, Steps, Takes};
 

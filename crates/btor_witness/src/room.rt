@@ -1,5 +1,5 @@
 // The state of a judge between frames.
-ghost use Rattle.std.specs.Prelude.{◌≡◌, ◌<◌, ◌≤◌, ◌↔◌, ℕ, [], map, length, false, true, IfOk, IfSome, IfNone, IsTrue, slice_get, Some};
+ghost use Rattle.std.specs.Prelude.{◌≡◌, ◌<◌, ◌≤◌, ◌↔◌, [], map, length, false, true, IfOk, IsTrue};
 ghost use Rattle.std.specs.List.{AllByRecursion};
 ghost use Rattle.word_core.specs.Words.{IsWord};
 ghost use Rattle.word_core.specs.declared.word.TheConstants.{WIDEST};
@@ -8,7 +8,7 @@ ghost use Rattle.btor_tree.specs.Frame.{ConstraintsHold, IsBad};
 ghost use Rattle.btor_frames.specs.Judged.{IsStatedFrame};
 ghost use Rattle.btor_witness.specs.Sizes.{widths_of};
 ghost use Rattle.btor_witness.specs.Printing.{IsBelow, IsPart};
-ghost use Rattle.btor_witness.specs.Judging.{statement_of, Passes, FailsFirst};
+ghost use Rattle.btor_witness.specs.Judging.{statement_of};
 ghost use Rattle.btor_witness.specs.Room as spec;
 ghost use Rattle.btor_witness.specs.Room.{ArePut, HoldsStated, AreWidths, IsWordThere, RoomFits, places_of, zeroed};
 

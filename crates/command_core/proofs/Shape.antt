@@ -1,11 +1,11 @@
 -- The command as clap builds it.
-use Rattle.std.proofs.Common.{◌≡◌, ℕ, true, List, [], ◌∷◌, Option, Some, refl, codes}
+use Rattle.std.proofs.Common.{ℕ, true, List, [], ◌∷◌, Option, Some, codes}
 use Rattle.clap.specs.Walk.{Rule, Text}
-use Rattle.clap.specs.Simple.{App, Shape, built, new_shape, new_rule}
+use Rattle.clap.specs.Simple.{App, Shape, new_shape, new_rule}
 use Rattle.clap.specs.declared.builder.action.ArgAction.TheVariants.{Set}
 use Rattle.clap.specs.declared.builder.range.ValueRange.{ValueRange}
 use Rattle.clap.specs.declared.builder.value_parser.ValueParser.TheVariants as parser
-use Rattle.command_core.specs.Clap.{property_rule, word_app}
+use Rattle.command_core.specs.Clap.{property_rule}
 
 abbrev pub one_value : Option ValueRange
 one_value = Some (record { start_inclusive = 1; end_inclusive = 1 })
@@ -36,6 +36,3 @@ shape = record (new_shape (codes "words")) { rules = rules; no_binary_name = tru
 
 abbrev pub app : App
 app = record { top = shape; subs = [] }
-
-pub built_is : built word_app ≡ app
-built_is = refl

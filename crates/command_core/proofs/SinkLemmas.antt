@@ -1,6 +1,6 @@
 -- Pieces that are put one after another.
 use Rattle.std.proofs.Common.{◌≡◌, ◌+◌, ◌<◌, ◌≤◌, ℕ, true, Result, Ok, Err, List, ◌∷◌, ◌++◌, length, take, drop, Option, Some, None, refl, sym, ap, ◌∙◌, subst, arith}
-use Rattle.std.proofs.Math.Seq.{take-append-add, take-length}
+use Rattle.std.proofs.Math.Seq.{take-append-add}
 use Rattle.std.proofs.lemmas.List.{take-append-le, take-append-drop, append_assoc, length-append, drop_more}
 use Rattle.std.proofs.lemmas.Grind.{flat_map-append}
 use Rattle.std.specs.Prelude.{get_or, IfErr, OnErr}
@@ -48,11 +48,6 @@ part_put before mid now pieces i d piece (Err n) failed inside is there taken wi
 -- the same line in other words
 pub puts_so : {T E : Type 0} (before now : Option (List ℕ)) (count later : ℕ) (line other : List ℕ) (result : Result T E) → line ≡ other → Puts before now count later line result → Puts before now count later other result
 puts_so before now count later line other result e h = subst (λ l. Puts before now count later l result) e h
-
--- what is whole is a front
-pub whole_part : (before now : Option (List ℕ)) (bytes : List ℕ) → now ≡ grown before bytes → IsPart before now bytes
-whole_part before now bytes e =
-    record { count = length bytes; within = omega arith; taken = e ∙ ap (grown before) (sym (take-length bytes)) }
 
 -- the count grew, as the error says
 pub faulted_put : {T E : Type 0} (was count later : ℕ) (r : Result T E) → is_err r ≡ true → count ≡ was → OnErr r (HasNewFault count later) → HasNewFault was later

@@ -27,12 +27,12 @@ abbrev pub Instead : Option Files → Type 0 → List ℕ → ℕ → Answer →
 Instead files faulted name limit longer answer =
     ((answer ≡ Unread name) × (faulted ⊎ IsMissing files name)) ⊎ ((answer ≡ longer) × IsLonger files name limit)
 
--- a step stops for an answer of which this holds, or for want of memory
+-- a step stops for an answer of which this holds, or out of memory
 abbrev pub StopsWith : (Answer → Type 0) → Stop → Type 0
 StopsWith P (Answered answer) = P answer
 StopsWith P NoMemory = Unit {0}
 
--- where a step stops for want of memory, this holds
+-- where a step stops out of memory, this holds
 abbrev pub OnNoMemory : Type 0 → Stop → Type 0
 OnNoMemory P (Answered answer) = Unit {0}
 OnNoMemory P NoMemory = P
@@ -47,6 +47,6 @@ SaysRead other = Unit {0}
 abbrev pub SaysUnread : Answer → Type 0
 SaysUnread answer = status_of answer ≡ ReadFault
 
--- a step stops since a file was not read, or for want of memory
+-- a step stops since a file was not read, or out of memory
 abbrev pub StopsUnread : Stop → Type 0
 StopsUnread stop = StopsWith SaysUnread stop

@@ -1,12 +1,11 @@
 -- Nodes in lists of nodes, and where ranks fall no node leads to one of a higher rank.
-use Rattle.std.proofs.Common.{◌≡◌, ℕ, zero, suc, ◌+◌, ◌<◌, ◌≤◌, true, false, ◌==◌, nat_lt, nat_le as leb, List, [], ◌∷◌, length, take, refl, sym, subst, ◌∙◌, inl, inr, arith}
+use Rattle.std.proofs.Common.{◌≡◌, ℕ, zero, suc, ◌<◌, ◌≤◌, true, false, ◌==◌, nat_lt, nat_le as leb, List, [], ◌∷◌, length, take, refl, sym, subst, inl, inr, arith}
 use Rattle.std.specs.Prelude.{slice_index_or}
 use Rattle.std.specs.List.{list_all}
 use Rattle.std.proofs.lemmas.Bool.{or_cases}
 use Rattle.std.proofs.lemmas.Bool.Decides.{nat_tests}
-use Rattle.std.proofs.lemmas.List.{take_more}
 use Rattle.digraph.specs.Graph.{NodeLists, next_of, is_in, leads}
-use Rattle.digraph.proofs.Lists.{all_get, and_both, and_left, and_right, in_cases, same}
+use Rattle.digraph.proofs.Lists.{all_get, and_both, and_left, and_right, same}
 use Rattle.digraph.proofs.Laws.{ltb_lt, read_is, row_is}
 use Rattle.digraph.proofs.Visits.{first_edge, no_edges}
 use Rattle.digraph.specs.Ranks.{Falls, rank_of}
@@ -19,15 +18,6 @@ pub all_taken : (n m : ℕ) (xs : List ℕ) → list_all (λ k. nat_lt k n) xs �
 all_taken n zero xs h = refl
 all_taken n (suc m) [] h = refl
 all_taken n (suc m) (x ∷ xs) h = and_both (nat_lt x n) (list_all (λ k. nat_lt k n) (take m xs)) (and_left (nat_lt x n) (list_all (λ k. nat_lt k n) xs) h) (all_taken n m xs (and_right (nat_lt x n) (list_all (λ k. nat_lt k n) xs) h))
-
--- one more node of a list, of which no rank is higher
-pub rank_more : (ranks row : List ℕ) (i x low high : ℕ) → i < length row → x ≡ slice_index_or row i x → low ≤ high → rank_of ranks x ≤ high
-    → ((m : ℕ) → is_in (take i row) m ≡ true → rank_of ranks m ≤ low) → (m : ℕ) → is_in (take (i + 1) row) m ≡ true → rank_of ranks m ≤ high
-rank_more ranks row i x low high l e up here before m h =
-    elim (in_cases (take i row) (slice_index_or row i x) m (subst (λ (xs : List ℕ). is_in xs m ≡ true) (take_more row i x l) h)) [
-      | inl s ↦ let b = before m s in omega (arith, up, b)
-      | inr s ↦ let there : x ≡ m = e ∙ s in subst (λ (k : ℕ). rank_of ranks k ≤ high) there here
-    ]
 
 -- no node leads to one of a higher rank
 falls_along : (g : NodeLists) (ranks : List ℕ) → Falls g ranks → (n k m : ℕ) → leads g n k m ≡ true → rank_of ranks m ≤ rank_of ranks k

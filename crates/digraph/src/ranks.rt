@@ -1,7 +1,7 @@
 // Ranks, which show that nodes lie on no cycle.
 ghost use Rattle.std.specs.Prelude.{◌≡◌, ℕ, ◌≤◌, ◌<◌, IfOk, length, nat_lt, true, false};
 ghost use Rattle.std.specs.List.{list_all};
-ghost use Rattle.digraph.specs.Graph.{is_graph, is_in, next_of, leads};
+ghost use Rattle.digraph.specs.Graph.{is_graph, is_in, leads};
 ghost use Rattle.digraph.specs.Ranks.{Falls, IsRanking, rank_of};
 
 use crate::components::component_ranks;

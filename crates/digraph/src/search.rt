@@ -1,5 +1,5 @@
 // A depth-first search. Nodes are put in order as they are left.
-ghost use Rattle.std.specs.Prelude.{◌≡◌, ◌<◌, ◌≤◌, ◌++◌, [], ◌∷◌, IfOk, OnOk, length, true, false, nat_lt, take, slice_index_or, Ok};
+ghost use Rattle.std.specs.Prelude.{◌≡◌, ◌<◌, ◌≤◌, [], IfOk, OnOk, length, true, false, nat_lt, take, slice_index_or, Ok};
 ghost use Rattle.std.specs.List.{list_all};
 ghost use Rattle.digraph.specs.Graph.{is_graph, NodeLists};
 ghost use Rattle.digraph.specs.Searching.{IsSearch, IsTaken, IsStep, Finishes, is_done, is_new, is_open, opened, closed, turned};

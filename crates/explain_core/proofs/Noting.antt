@@ -10,16 +10,12 @@ use Rattle.explain_core.specs.Notes.{note_of}
 use Rattle.explain_core.specs.Explaining.{File, end_before, explained_lines, is_explained, line_at_text}
 use Rattle.explain_core.proofs.Grown.{then_grown}
 use Rattle.explain_core.proofs.Putting.{part_front, part_then, put_failed}
-use Rattle.text_core.proofs.OutsideLemmas.{grown_nothing}
 
 -- a front of a whole text was written, and this is what is left
 pub record Wrote (before now : Option (List ℕ)) (rest whole : List ℕ) : Type 0 where
   pub done : List ℕ
   pub taken : now ≡ grown before done
   pub is : done ++ rest ≡ whole
-
-pub nothing_wrote : (before : Option (List ℕ)) (whole : List ℕ) → Wrote before before whole whole
-nothing_wrote before whole = record { done = []; taken = sym (grown_nothing before); is = refl }
 
 pub wrote_more : (before mid now : Option (List ℕ)) (piece rest whole : List ℕ) → Wrote before mid (piece ++ rest) whole → now ≡ grown mid piece → Wrote before now rest whole
 wrote_more before mid now piece rest whole w next = record {

@@ -1,6 +1,6 @@
 // Formulas of systems and checks.
-ghost use Rattle.std.specs.Prelude.{◌≡◌, ◌<◌, ◌^◌, ◌++◌, IfOk, IfSome, OnOk};
-ghost use Rattle.moxi_sexpr.specs.Tree.{nodes, plain as plain_form, plain_forms};
+ghost use Rattle.std.specs.Prelude.{◌≡◌, ◌<◌, ◌^◌, IfOk, IfSome, OnOk};
+ghost use Rattle.moxi_sexpr.specs.Tree.{nodes, plain as plain_form};
 ghost use Rattle.moxi_terms.specs.View.{plain};
 ghost use Rattle.moxi_attributes.specs.Views.{value_now};
 ghost use Rattle.moxi_scripts.specs.Collecting.{also};

@@ -1,12 +1,11 @@
 // The three lists of variables of a system or a check.
-ghost use Rattle.std.specs.Prelude.{◌≡◌, ◌++◌, [], IfOk, OnOk};
+ghost use Rattle.std.specs.Prelude.{◌≡◌, ◌++◌, IfOk, OnOk};
 ghost use Rattle.moxi_sexpr.specs.Tree.{plain_forms};
 ghost use Rattle.moxi_attributes.specs.Views.{value_now};
 ghost use Rattle.moxi_scripts.specs.Attributes.{value_of};
 ghost use Rattle.moxi_scripts.specs.declared.parts.Key.TheVariants as keys;
 ghost use Rattle.moxi_scripts.specs.declared.parts.Turn.TheVariants as turns;
 ghost use Rattle.moxi_scripts.specs.Collecting.{also};
-ghost use Rattle.moxi_scripts.specs.Declarations.{is_nil};
 ghost use Rattle.moxi_scripts.specs.Lists.{all_entries, are_shaped, entries_at, entries_behind, list_of, list_shape};
 ghost use Rattle.moxi_scripts.specs.Lists.{listed_entries, listed_failures, lists_failures, text_entries};
 

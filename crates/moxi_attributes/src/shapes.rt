@@ -1,9 +1,9 @@
 // The shapes of lists.
 ghost use Rattle.std.specs.Prelude.{◌≡◌};
 ghost use Rattle.moxi_sexpr.specs.Tree.{plain, plain_forms};
-ghost use Rattle.moxi_term_reading.specs.Forms.{only_now, pair_now, place_in, symbol_now};
+ghost use Rattle.moxi_term_reading.specs.Forms.{place_in};
 ghost use Rattle.moxi_scripts.specs.Declarations.{is_empty_list};
-ghost use Rattle.moxi_scripts.specs.Shapes.{headed, headed_by, misshapen, misshapen_place, named, named_by, named_in, parts_of, triple_of};
+ghost use Rattle.moxi_scripts.specs.Shapes.{headed, misshapen, misshapen_place, named, named_in, parts_of, triple_of};
 ghost use Rattle.moxi_attributes.specs.Views.{headed_now, named_now, parts_now, triple_now};
 
 use moxi_sexpr::{Form, FormShape};

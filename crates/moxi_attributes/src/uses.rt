@@ -1,8 +1,8 @@
 // Subsystems as written: the systems that they name, and their actuals.
 ghost use Rattle.std.specs.Prelude.{◌≡◌, ◌++◌, [], IfOk, OnOk, is_none, is_some, if◌then◌else◌};
 ghost use Rattle.moxi_sexpr.specs.Tree.{plain, plain_forms};
-ghost use Rattle.moxi_term_reading.specs.Finding.{found as found_now, first_of};
-ghost use Rattle.moxi_term_reading.specs.Forms.{place_in, symbol_of};
+ghost use Rattle.moxi_term_reading.specs.Finding.{found as found_now};
+ghost use Rattle.moxi_term_reading.specs.Forms.{symbol_of};
 ghost use Rattle.moxi_scripts.specs.declared.parts.Key.TheVariants as keys;
 ghost use Rattle.moxi_scripts.specs.declared.parts.Turn.TheVariants as turns;
 ghost use Rattle.moxi_scripts.specs.declared.parts.Command.TheVariants as commands;

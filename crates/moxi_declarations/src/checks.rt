@@ -1,7 +1,7 @@
 // The check of a script, as read before its system is looked up.
 ghost use Rattle.std.specs.Prelude.{◌≡◌, ◌<◌, ◌^◌, ◌++◌, [], true, Some, IfOk, OnOk};
 ghost use Rattle.std.specs.Option.{option_map};
-ghost use Rattle.moxi_sexpr.specs.Tree.{all_nodes, plain, plain_forms};
+ghost use Rattle.moxi_sexpr.specs.Tree.{all_nodes, plain_forms};
 ghost use Rattle.moxi_scripts.specs.declared.parts.Command.TheVariants as commands;
 ghost use Rattle.moxi_scripts.specs.declared.parts.Turn.TheVariants as turns;
 ghost use Rattle.moxi_attributes.specs.Views.{value_now, headed_here, plain_labels};

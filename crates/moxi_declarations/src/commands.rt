@@ -1,6 +1,6 @@
 // The commands of a script.
 ghost use Rattle.std.specs.Str.{bytes_eq};
-ghost use Rattle.std.specs.Prelude.{codes, ◌≡◌, ◌<◌, ◌+◌, ◌^◌, ◌++◌, [], suc, Some, OnOk};
+ghost use Rattle.std.specs.Prelude.{codes, ◌≡◌, ◌<◌, ◌+◌, ◌^◌, suc, Some, OnOk};
 ghost use Rattle.moxi_sexpr.specs.Tree.{all_nodes, nodes, plain, plain_forms};
 ghost use Rattle.moxi_term_reading.specs.Forms.{only_of, symbol_now};
 ghost use Rattle.moxi_scripts.specs.declared.parts.CommandName.TheVariants as name;

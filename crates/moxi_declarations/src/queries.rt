@@ -1,7 +1,7 @@
 // The queries of a check.
 ghost use Rattle.std.specs.Prelude.{◌≡◌, ◌++◌, ◌∷◌, [], IfOk, OnOk, if◌then◌else◌, is_some, not};
 ghost use Rattle.digraph.specs.Graph.{are_distinct, is_in};
-ghost use Rattle.moxi_sexpr.specs.Tree.{no_trees, plain, plain_forms, tree};
+ghost use Rattle.moxi_sexpr.specs.Tree.{plain, plain_forms};
 ghost use Rattle.moxi_term_reading.specs.Forms.{place_in, symbol_of};
 ghost use Rattle.moxi_scripts.specs.declared.parts.Turn.TheVariants as turns;
 ghost use Rattle.moxi_scripts.specs.Collecting.{also};

@@ -6,7 +6,7 @@ ghost use Rattle.moxi_term_reading.specs.Reading.{prime_failures};
 ghost use Rattle.moxi_terms.specs.Sorts.{IsSort};
 ghost use Rattle.moxi_scripts.specs.Collecting.{also, fails_if};
 ghost use Rattle.moxi_scripts.specs.Declarations.{constants_in, defined_sort_tests, enumeration_failures, listed_failures};
-ghost use Rattle.moxi_scripts.specs.Declarations.{parameters_failures, sort_definition_failures, with_defined_sort};
+ghost use Rattle.moxi_scripts.specs.Declarations.{sort_definition_failures, with_defined_sort};
 ghost use Rattle.moxi_scripts.specs.Declarations.{with_enumeration_names, with_listed, with_listed_names, with_read_enumeration};
 ghost use Rattle.moxi_scripts.specs.Declarations.{with_constants, with_new_enumeration, with_read_sort, with_sort_if};
 ghost use Rattle.moxi_scripts.specs.Declarations.{constants_failures, may_be_constants, symbols_in};

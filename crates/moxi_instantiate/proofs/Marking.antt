@@ -1,9 +1,8 @@
 -- Marks of numbers.
-use Rattle.std.proofs.Common.{cond, drop, drop-cons, add-one, ◌≡◌, ℕ, suc, ◌+◌, ◌<◌, ◌≤◌, Bool, true, false, ◌||◌, List, [], ◌∷◌, ◌++◌, take, length, append_assoc, refl, sym, ap, ◌∙◌, subst, arith, inl, inr}
-use Rattle.std.specs.Prelude.{min, nat_eq, slice_index_or, slice_set as set}
+use Rattle.std.proofs.Common.{cond, drop, drop-cons, add-one, ◌≡◌, ℕ, suc, ◌+◌, ◌<◌, Bool, true, false, ◌||◌, List, [], ◌∷◌, ◌++◌, take, length, append_assoc, refl, sym, ap, ◌∙◌, subst, arith}
+use Rattle.std.specs.Prelude.{min, nat_eq, slice_index_or}
 use Rattle.std.specs.List.{list_any}
-use Rattle.std.proofs.lemmas.Bool.Decides.{eqb_tells}
-use Rattle.std.proofs.lemmas.List.{get_or-set_same, get_or-set_other, length-set, take_more}
+use Rattle.std.proofs.lemmas.List.{take_more}
 use Rattle.std.proofs.lemmas.List.Folds.{list_any-append}
 use Rattle.moxi_scripts.specs.declared.script.Query.{Query}
 use Rattle.moxi_instantiate.specs.declared.checks.FormulaKind.{FormulaKind}
@@ -22,22 +21,6 @@ or_nothing false = refl
 
 with_last : (named : List ℕ) (k i : ℕ) → list_any (nat_eq k) (named ++ i ∷ []) ≡ (list_any (nat_eq k) named || (nat_eq k i || false))
 with_last named k i = list_any-append (nat_eq k) named (i ∷ [])
-
-pub marked_one : (marks : List Bool) (named : List ℕ) (i : ℕ) → i < length marks → AreMarked marks named → AreMarked (set marks i true) (named ++ i ∷ [])
-marked_one marks named i l m k h =
-    elim (eqb_tells k i) [
-      | inl e ↦ ap (λ j. slice_index_or (set marks i true) j false) e.1 ∙ get_or-set_same marks i true false l
-          ∙ sym (with_last named k i ∙ ap (λ b. list_any (nat_eq k) named || (b || false)) e.0 ∙ or_last (list_any (nat_eq k) named))
-      | inr e ↦ get_or-set_other marks i k true false e.1 ∙ m k (subst (λ n. k < n) (length-set marks i true) h)
-          ∙ sym (with_last named k i ∙ ap (λ b. list_any (nat_eq k) named || (b || false)) e.0 ∙ or_nothing (list_any (nat_eq k) named))
-    ]
-
-pub marked_none : (marks : List Bool) (named : List ℕ) (i : ℕ) → length marks ≤ i → AreMarked marks named → AreMarked marks (named ++ i ∷ [])
-marked_none marks named i l m k h =
-    elim (eqb_tells k i) [
-      | inl e ↦ absurd (let s : k ≡ i = e.1 in omega (arith, l, h, s))
-      | inr e ↦ m k h ∙ sym (with_last named k i ∙ ap (λ b. list_any (nat_eq k) named || (b || false)) e.0 ∙ or_nothing (list_any (nat_eq k) named))
-    ]
 
 -- one number more
 pub marked_more : (marks : List Bool) (named numbers : List ℕ) (k i d : ℕ) → k < length numbers → i ≡ slice_index_or numbers k d → AreMarked marks ((named ++ take k numbers) ++ i ∷ [])

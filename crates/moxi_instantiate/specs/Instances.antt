@@ -48,7 +48,7 @@ pub record IsSingle (s : PlainScript) : Type 0 where
   pub accepted : flat_refusal s ≡ None
   pub alone : (system_at s.systems s.check.system).subsystems ≡ []
 
--- the refusal is the script's; of want of memory nothing is said
+-- the refusal is the script's; of running out of memory nothing is said
 abbrev pub IsInstEnd : PlainScript → End → Type 0
 IsInstEnd s (Bad why) = flat_refusal s ≡ Some why
 IsInstEnd s NoMemory = Unit {0}

@@ -1,7 +1,7 @@
 // The size and the height of a check. The size of each formula is counted once, even if several queries name it.
 ghost use Rattle.std.specs.Prelude.{◌≡◌, ◌<◌, ◌≤◌, ◌++◌, ◌∷◌, [], List, ℕ, map, length, IfOk, slice_index_or, false, if◌then◌else◌};
 ghost use Rattle.moxi_terms.specs.View.{plain};
-ghost use Rattle.moxi_scripts.specs.Script.{PlainFormula, plain_check, plain_formula};
+ghost use Rattle.moxi_scripts.specs.Script.{plain_check, plain_formula};
 ghost use Rattle.moxi_flat.specs.Systems.{check_height, check_size, formulas_height};
 ghost use Rattle.moxi_flat.specs.Terms.{term_size};
 ghost use Rattle.moxi_instantiate.specs.CheckCounts.{AreMarked, all_numbers, named_sum, numbers_of, queries_sum, query_sum, size_at, unnamed_sum};

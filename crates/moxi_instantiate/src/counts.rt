@@ -1,6 +1,6 @@
 // Counts that stop just above every limit, since the counted system may be exponential in the
 // script.
-ghost use Rattle.std.specs.Prelude.{◌≡◌, ◌+◌, ◌-◌, ◌*◌, ◌/◌, ◌≤◌, length, max};
+ghost use Rattle.std.specs.Prelude.{◌≡◌, ◌+◌, ◌-◌, ◌*◌, ◌/◌, ◌≤◌, max};
 ghost use Rattle.moxi_instantiate.specs.Counting.{capped, known};
 
 /// The number at which counting stops: one above the largest size that a flat system may have.

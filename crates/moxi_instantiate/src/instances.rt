@@ -1,5 +1,5 @@
 // The parts of all instances inside a system.
-ghost use Rattle.std.specs.Prelude.{◌≡◌, ◌<◌, ◌+◌, ◌++◌, ◌∷◌, [], ◌^◌, ℕ, false, map, length, IfOk, OnOk};
+ghost use Rattle.std.specs.Prelude.{◌≡◌, ◌<◌, ◌+◌, ◌++◌, ◌∷◌, [], ◌^◌, false, map, length, IfOk, OnOk};
 ghost use Rattle.moxi_scripts.specs.Script.{plain_system, system_at, variables_in};
 ghost use Rattle.moxi_scripts.specs.ScriptView.{plain_script};
 ghost use Rattle.moxi_scripts.specs.Valid.{IsValid, check_variables};

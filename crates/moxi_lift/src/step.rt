@@ -1,5 +1,5 @@
 // The step of a frame of a witness.
-ghost use Rattle.std.specs.Prelude.{◌≡◌, ◌==◌, nat_lt, if◌then◌else◌, ℕ, List, length, IfOk};
+ghost use Rattle.std.specs.Prelude.{◌≡◌, ◌==◌, nat_lt, if◌then◌else◌, ℕ, length, IfOk};
 ghost use Rattle.std.specs.List.{AllByRecursion};
 ghost use Rattle.moxi_terms.specs.declared.data.Datum.TheVariants as datum;
 ghost use Rattle.moxi_terms.specs.Sorted.{AreSorts};

@@ -114,12 +114,6 @@ fold_bits : (bs : List Bool) → 1 ≤ length bs → fold_all two.And (map bit b
 fold_bits [] l = absurd (omega (arith, l))
 fold_bits (b ∷ bs) l = all_ones b bs
 
-same_bits : (a b : Bool) → bit (eqb (bit_of a) (bit_of b)) ≡ bit (same_truth a b)
-same_bits true true = refl
-same_bits true false = refl
-same_bits false true = refl
-same_bits false false = refl
-
 both_same : (m n : ℕ) (b : Bool) → m ≡ n → b ≡ (eqb m n && b)
 both_same m n b e = ap (λ c. c && b) (sym (eq-eqb m n e))
 

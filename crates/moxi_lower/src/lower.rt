@@ -1,5 +1,5 @@
 // The witness of a trace.
-ghost use Rattle.std.specs.Prelude.{◌≡◌, ◌<◌, ◌^◌, length, map, None, IfOk};
+ghost use Rattle.std.specs.Prelude.{◌≡◌, ◌<◌, ◌^◌, length, map, IfOk};
 ghost use Rattle.std.specs.List.{AllByRecursion};
 ghost use Rattle.moxi_terms.specs.Sorts.{Fit};
 ghost use Rattle.moxi_terms.specs.Tree.{sorts_of};

@@ -4,9 +4,9 @@ ghost use Rattle.std.specs.Option.{option_map};
 ghost use Rattle.moxi_declarations.specs.Views.{plain_check_reading, plain_draft, plain_reading};
 ghost use Rattle.moxi_scripts.specs.Collecting.{also};
 ghost use Rattle.moxi_scripts.specs.Declarations.{is_taken};
-ghost use Rattle.moxi_scripts.specs.Links.{actuals_clash, all_systems_failures, actuals_failures, check_failures, checked_failures, entries_fit};
-ghost use Rattle.moxi_scripts.specs.Links.{entry_sort, fit_failures, links_failures, list_failures, lists_at, lists_failures};
-ghost use Rattle.moxi_scripts.specs.Links.{same_known, sort_at, systems_failures, taken_failures, target_failures, use_failures};
+ghost use Rattle.moxi_scripts.specs.Links.{actuals_clash, all_systems_failures, actuals_failures, check_failures, entries_fit};
+ghost use Rattle.moxi_scripts.specs.Links.{links_failures, list_failures, lists_at, lists_failures};
+ghost use Rattle.moxi_scripts.specs.Links.{same_known, sort_at, systems_failures, taken_failures, use_failures};
 ghost use Rattle.moxi_scripts.specs.Links.{uses_failures};
 ghost use Rattle.moxi_reading.specs.Views.{lists_now};
 

@@ -1,5 +1,5 @@
 // The declarations that the responses of a script's check are printed and read against.
-ghost use Rattle.std.specs.Prelude.{◌≡◌, IfOk, map};
+ghost use Rattle.std.specs.Prelude.{◌≡◌, IfOk};
 ghost use Rattle.moxi_flat.specs.FlatSystem.{flat_of};
 ghost use Rattle.moxi_scripts.specs.Script.{system_at};
 ghost use Rattle.moxi_scripts.specs.ScriptView.{plain_script};

@@ -1,11 +1,10 @@
 // The printer and the reader.
-ghost use Rattle.std.specs.Prelude.{◌≡◌, ◌≤◌, ◌<◌, true, length, IfOk};
+ghost use Rattle.std.specs.Prelude.{◌≡◌, ◌<◌, length, IfOk};
 ghost use Rattle.moxi_scripts.specs.ScriptView.{plain_script};
 ghost use Rattle.moxi_flat.specs.FlatSystem.{flat_of};
 ghost use Rattle.moxi_judge.specs.Judging.{IsStatedTrace};
-ghost use Rattle.moxi_trace.specs.Responses.{IsStatedResponse, ReadsResponse, response_of};
+ghost use Rattle.moxi_trace.specs.Responses.{IsStatedResponse, response_of};
 ghost use Rattle.moxi_trace.specs.Texts.{response_text};
-ghost use Rattle.moxi_trace.specs.Traces.{is_within, most_bytes};
 ghost use Rattle.moxi_responses.specs.Declaring.{ReadsAgain, declared_of};
 ghost use Rattle.text_core.specs.Answers.{Answers};
 

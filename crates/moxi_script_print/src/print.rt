@@ -1,5 +1,5 @@
 // Printing of scripts.
-ghost use Rattle.std.specs.Prelude.{◌≡◌, ◌≤◌, ◌++◌, ◌∷◌, [], map, IfOk, OnOk};
+ghost use Rattle.std.specs.Prelude.{◌≡◌, ◌≤◌, ◌++◌, map, IfOk, OnOk};
 ghost use Rattle.moxi_sexpr.specs.Lexing.{limit};
 ghost use Rattle.moxi_term_print.specs.Shown.{lines_text, shown_depths};
 ghost use Rattle.moxi_script_print.specs.Printing.{shown_enumerations, shown_functions, shown_logic, shown_script, shown_sorts, shown_systems, system_names};

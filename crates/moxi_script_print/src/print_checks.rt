@@ -1,7 +1,7 @@
 // Printing of checks.
-ghost use Rattle.std.specs.Prelude.{◌≡◌, ◌++◌, ◌∷◌, [], map, codes, OnOk, IfOk};
+ghost use Rattle.std.specs.Prelude.{◌≡◌, ◌++◌, ◌∷◌, [], map, OnOk, IfOk};
 ghost use Rattle.moxi_term_print.specs.Shown.{parts_text, text_of};
-ghost use Rattle.moxi_script_print.specs.Printing.{all_queries, attribute, query_names, shown_query, shown_check, shown_conditions, shown_label, shown_labels, shown_names, shown_queries};
+ghost use Rattle.moxi_script_print.specs.Printing.{all_queries, attribute, query_names, shown_query, shown_check, shown_conditions, shown_label, shown_labels, shown_queries};
 ghost use Rattle.moxi_scripts.specs.Valid.{formula_names};
 ghost use Rattle.moxi_scripts.specs.Script.{plain_check, plain_formula};
 ghost use Rattle.text_core.specs.Bytes.{bytes_behind};

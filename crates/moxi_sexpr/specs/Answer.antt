@@ -12,13 +12,13 @@ use Rattle.moxi_sexpr.specs.Grammar.{RefusesWith}
 use Rattle.moxi_sexpr.specs.Reading.{Scan}
 use Rattle.moxi_sexpr.specs.Machine.{Frame, Move, stop, onward, Turn, stops, goes_to}
 
--- these forms, or want of memory
+-- these forms, or out of memory
 abbrev pub Reads : Trees → Result (Vec Form) End → Type 0
 Reads ts (Ok v) = trees_of (map plain v.items) ≡ ts
 Reads ts (Err (Bad why)) = ⊥
 Reads ts (Err NoMemory) = Unit {0}
 
--- this refusal, or want of memory
+-- this refusal, or out of memory
 abbrev pub IsAnswered : Refusal → Result (Vec Form) End → Type 0
 IsAnswered why (Ok v) = ⊥
 IsAnswered why (Err (Bad x)) = x ≡ why

@@ -4,7 +4,7 @@ ghost use Rattle.std.specs.Prelude.{◌≡◌, ◌≤◌, ◌++◌, ℕ, List, [
 ghost use Rattle.moxi_sexpr.specs.Atoms.{doubled, spelled};
 ghost use Rattle.moxi_sexpr.specs.declared.form.Atom.TheVariants as atoms;
 ghost use Rattle.moxi_sexpr.specs.Tree.{Trees, plain, plain_forms, depths};
-ghost use Rattle.moxi_sexpr.specs.Printing.{is_among, reserved_words, symbol_spelling, printed_atom, printed, printed_parts, printed_forms, ArePrintable, ReadsBack};
+ghost use Rattle.moxi_sexpr.specs.Printing.{is_among, reserved_words, printed_atom, printed, printed_parts, printed_forms, ArePrintable, ReadsBack};
 ghost use Rattle.moxi_sexpr.specs.Lexing.{limit};
 ghost use Rattle.moxi_sexpr.specs.Reserved.{may_be_reserved};
 ghost use Rattle.moxi_sexpr.specs.Writing.{WritesLines};

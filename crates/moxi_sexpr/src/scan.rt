@@ -1,6 +1,6 @@
 // Scanning of the atom at the front of a text.
 
-ghost use Rattle.std.specs.Prelude.{◌≡◌, ◌<◌, ◌≤◌, ◌∷◌, ◌++◌, ◌||◌, ℕ, List, false, length, take, drop, IfOk, IfSome};
+ghost use Rattle.std.specs.Prelude.{◌≡◌, ◌<◌, ◌∷◌, ◌++◌, ◌||◌, ℕ, List, false, length, take, drop, IfOk, IfSome};
 ghost use Rattle.moxi_sexpr.specs.Bytes.{belongs, is_symbol_byte};
 ghost use Rattle.moxi_sexpr.specs.Atoms.{atom_of};
 ghost use Rattle.moxi_sexpr.specs.Reading.{run_length, run_of, simple_of, has_prime, past_prime, past_symbol, bare_of, barred_of, quote_length, quote_of, digits_of, scan_of, undoubled, value_of};

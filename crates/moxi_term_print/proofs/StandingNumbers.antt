@@ -15,7 +15,8 @@ use Rattle.moxi_sexpr.specs.Atoms.{is_run}
 use Rattle.text_core.specs.Bytes.{is_digit}
 use Rattle.moxi_sexpr.specs.Bytes.{is_binary_digit}
 use Rattle.moxi_term_reading.specs.SortReading.{index_of, number_or_most}
-use Rattle.word_core.proofs.BinaryDigits.{digit_fact, digits_long, number_back}
+use Rattle.text_core.proofs.BinaryLemmas.{digits_long}
+use Rattle.word_core.proofs.BinaryDigits.{digit_fact, number_back}
 use Rattle.text_core.proofs.Numerals.{all_digits, value_after}
 
 -- BINARY DIGITS
@@ -33,12 +34,13 @@ read_back base w n digits low high small e =
 
 -- the digits of a word spell it
 pub word_again : (c : BitVector) → IsWord c → read_word (length (binary_digits c.width c.bits)) 2 (binary_digits c.width c.bits) ≡ Some c
+unfolding binary_digits
 word_again c h =
     let digits = binary_digits c.width c.bits in
     let long = digits_long c.width c.bits in
     let some : 0 < length digits = omega (arith, long, h.0) in
     ap (λ w. read_word w 2 digits) long
-    ∙ read_back 2 c.width c.bits digits h.0 h.1 h.2 (value_of_some 2 digits some ∙ number_back c.width c.bits h.2)
+    ∙ read_back 2 c.width c.bits digits h.0 h.1 h.2 (value_of_some 2 digits some ∙ number_back binary_digits (λ n. refl) (λ w n. refl) c.width c.bits h.2)
 
 -- NUMERALS
 

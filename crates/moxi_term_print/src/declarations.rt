@@ -1,5 +1,5 @@
 // Printing of declarations.
-ghost use Rattle.std.specs.Prelude.{◌≡◌, ◌++◌, ◌∷◌, [], map, OnOk};
+ghost use Rattle.std.specs.Prelude.{◌≡◌, ◌++◌, [], map, OnOk};
 ghost use Rattle.moxi_terms.specs.View.{plain_function};
 ghost use Rattle.moxi_term_print.specs.Shown.{parts_text, text_of};
 ghost use Rattle.moxi_term_print.specs.Declarations.{shown_enumeration, shown_function, shown_named_sort, shown_symbols};

@@ -1,6 +1,5 @@
 // Printing of terms.
 ghost use Rattle.std.specs.Prelude.{◌≡◌, ◌++◌, ◌∷◌, if◌then◌else◌, [], map, take, length, OnOk};
-ghost use Rattle.moxi_terms.specs.Names.{function_names};
 ghost use Rattle.moxi_terms.specs.Tree.{trees_of};
 ghost use Rattle.moxi_terms.specs.View.{plain};
 ghost use Rattle.moxi_term_print.specs.Shown.{parts_text, text_of};

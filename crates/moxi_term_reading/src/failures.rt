@@ -1,6 +1,6 @@
 // The failing test with the least place, and at one place with the least number.
 ghost use Rattle.std.specs.Prelude.{◌≡◌};
-ghost use Rattle.moxi_term_reading.specs.Failures.{key, number_of, pick, minimum};
+ghost use Rattle.moxi_term_reading.specs.Failures.{key, number_of, minimum};
 
 use text_core::{Kind, Refusal};
 

@@ -6,8 +6,8 @@ ghost use Rattle.moxi_sexpr.specs.Lexing.{refusal};
 ghost use Rattle.moxi_sexpr.specs.Tree.{plain, plain_forms};
 ghost use Rattle.moxi_term_reading.specs.Failures.{least};
 ghost use Rattle.moxi_term_reading.specs.declared.heads.HeadFailure.TheVariants.{Unknown};
-ghost use Rattle.moxi_term_reading.specs.Forms.{digits_now, is_named, pair_now, symbol_now};
-ghost use Rattle.moxi_term_reading.specs.Reading.{atom_head, decimal_digits, extended_head, extracted_head, head_of, head_primes, head_tests, indexed_head, listed_head, literal_digits, paired_head, prime_failures, symbol_primes};
+ghost use Rattle.moxi_term_reading.specs.Forms.{digits_now, is_named, symbol_now};
+ghost use Rattle.moxi_term_reading.specs.Reading.{atom_head, decimal_digits, extended_head, extracted_head, head_of, head_primes, head_tests, indexed_head, listed_head, literal_digits, prime_failures, symbol_primes};
 
 use crate::failures::minimum;
 use crate::forms::{is_primed, is_word, numeral_of, only_numeral, pair, symbol_atom, symbol_of};

@@ -6,8 +6,7 @@ ghost use Rattle.moxi_terms.specs.Sorted.{IsScope};
 ghost use Rattle.moxi_terms.specs.Sorts.{IsSort};
 ghost use Rattle.moxi_terms.specs.View.{ScopeState};
 ghost use Rattle.moxi_term_reading.specs.Forms.{digits_now, symbol_now};
-ghost use Rattle.moxi_term_reading.specs.SortReading.{atom_sort, index_of, indexed_sort, is_width, listed_sort, sort_reading, symbol_sort, unknown, unknown_indexed, vector_sort, width_sort};
-ghost use Rattle.moxi_terms.specs.Words.{is_one_of, left_out_sorts};
+ghost use Rattle.moxi_term_reading.specs.SortReading.{atom_sort, index_of, indexed_sort, listed_sort, sort_reading, symbol_sort, unknown, unknown_indexed, vector_sort, width_sort};
 
 use crate::forms::{only_numeral, symbol_atom, symbol_of};
 use moxi_sexpr::{Form, FormShape};

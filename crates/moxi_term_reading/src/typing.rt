@@ -1,7 +1,7 @@
 // The sort of an application.
-ghost use Rattle.std.specs.Prelude.{◌≡◌, ◌+◌, Some, None, map, [], ◌∷◌};
+ghost use Rattle.std.specs.Prelude.{◌≡◌, ◌+◌, Some, None, [], ◌∷◌};
 ghost use Rattle.std.specs.List.{list_all};
-ghost use Rattle.moxi_term_reading.specs.Typing.{call_sort, head_count_fits, head_sort, parameter_count};
+ghost use Rattle.moxi_term_reading.specs.Typing.{call_sort, head_count_fits, head_sort};
 ghost use Rattle.moxi_terms.specs.Scopes.{function_now};
 ghost use Rattle.moxi_terms.specs.Sorts.{calculated, chosen, common, compared, count_fits, fitting, is_arithmetic, is_chain, is_negation, logical, op_sort, same_sort, same_sorts, widened};
 ghost use Rattle.moxi_terms.specs.Tree.{sorts_of};

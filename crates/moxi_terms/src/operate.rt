@@ -1,8 +1,7 @@
 // Evaluation of operators.
-ghost use Rattle.std.specs.Prelude.{◌≡◌, false, ◌==◌, ◌<◌, ◌&&◌, ◌||◌, drop, not, Some, None, Ok, List, [], ◌∷◌, length};
+ghost use Rattle.std.specs.Prelude.{◌≡◌, false, ◌==◌, ◌&&◌, Some, None};
 ghost use Rattle.std.specs.List.{list_all, list_any};
-ghost use Rattle.word_core.specs.Table.{BinaryFits};
-ghost use Rattle.moxi_terms.specs.Operators.{all_differ, all_equal, folded, implied, is_comparison, nothing, on_words, op_value, parity, same, same_truth, truth_of, word_of};
+ghost use Rattle.moxi_terms.specs.Operators.{all_differ, all_equal, folded, implied, is_comparison, on_words, op_value, parity, same, truth_of, word_of};
 ghost use Rattle.moxi_terms.specs.declared.data.Datum.TheVariants as datum;
 ghost use Rattle.moxi_terms.specs.Applied.{AreWide, CanApply, IsBits};
 

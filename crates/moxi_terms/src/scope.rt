@@ -1,8 +1,8 @@
 // Scopes: the enumerations, sorts and functions that a script declares.
-ghost use Rattle.std.specs.Prelude.{◌≡◌, ◌<◌, ◌≤◌, ◌^◌, ◌-◌, ◌+◌, ◌++◌, take, not, length, map, IfOk, OnOk, OnErr, Some, None, if◌then◌else◌, option_and_then, slice_get, IsTrue};
+ghost use Rattle.std.specs.Prelude.{◌≡◌, ◌<◌, ◌≤◌, ◌^◌, ◌-◌, ◌+◌, ◌++◌, take, not, length, map, IfOk, OnOk, OnErr, Some, None, if◌then◌else◌, slice_get};
 ghost use Rattle.std.specs.List.{list_any};
 ghost use Rattle.std.specs.Option.{option_map};
-ghost use Rattle.moxi_terms.specs.Names.{all_constants, constant_count, constant_named, is_sort_name, is_term_name, may_be_enumeration, no_scope, numbered, or_else, function_names, sort_named, with_enumeration, with_function, with_sort};
+ghost use Rattle.moxi_terms.specs.Names.{all_constants, constant_count, is_sort_name, is_term_name, may_be_enumeration, no_scope, numbered, or_else, function_names, sort_named, with_enumeration, with_function, with_sort};
 ghost use Rattle.name_maps.specs.Names.{place_of};
 ghost use Rattle.moxi_terms.specs.Meanings.{bare_call, call_of, head_named, value_named};
 ghost use Rattle.moxi_terms.specs.Scopes.{enumeration_now, constants_now, named_sort_now, function_now};

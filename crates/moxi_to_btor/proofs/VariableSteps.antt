@@ -90,12 +90,6 @@ code_extends es (Choice n) lines p = go (eqb (constant_count es n) (2 ^ choice_w
 abbrev pub count_word : List Enumeration → ℕ → BitVector
 count_word es n = record { width = choice_width (constant_count es n); bits = constant_count es n }
 
-pub code_below : (es : List Enumeration) (n : ℕ) (lines : List Line) (p : ℕ) → IsWord (count_word es n) → with_code es (Choice n) lines p ≡ below_lines (count_word es n) lines p
-code_below es n lines p i =
-    let c = constant_count es n in
-    let e : eqb c (2 ^ choice_width c) ≡ false = let l : c < 2 ^ choice_width c = i.2 in grind (arith, nat_tests) in
-    ap (λ b. cond b lines (below_lines (count_word es n) lines p)) e
-
 pub code_whole : (es : List Enumeration) (n : ℕ) (lines : List Line) (p : ℕ) → HaveCodes es → (IsWord (count_word es n) → ⊥) → choice_width (constant_count es n) ≤ WIDEST → with_code es (Choice n) lines p ≡ lines
 code_whole es n lines p codes h high =
     let c = constant_count es n in
@@ -108,9 +102,6 @@ code_whole es n lines p codes h high =
         by_test : (t : Bool) → eqb a (2 ^ b) ≡ t → eqb a (2 ^ b) ≡ true
         by_test true e = e
         by_test false e = absurd (f (let l : a < 2 ^ b = grind (arith, nat_tests) in l))
-
-pub below_can : (es : List Enumeration) (n : ℕ) (lines : List Line) (p : ℕ) → CanPutCode es (Choice n) lines p → IsWord (count_word es n) → CanPutBelow (count_word es n) lines p
-below_can es n lines p c i = record { word = i; width = c.width; room = subst (λ ls. length ls < greatest_id) (code_below es n lines p i) c.room }
 
 -- ---- one variable
 

@@ -2,7 +2,7 @@
 ghost use Rattle.std.specs.Prelude.{◌≡◌, map, IfOk, OnOk};
 ghost use Rattle.moxi_terms.specs.View.{plain};
 ghost use Rattle.moxi_instantiate.specs.PlainParts.{plain_part};
-ghost use Rattle.moxi_lines.specs.Lines.{first_place, is_true_term, with_formula, with_init, with_inv, with_part, with_parts, with_step, with_trans};
+ghost use Rattle.moxi_lines.specs.Lines.{is_true_term, with_formula, with_init, with_inv, with_part, with_parts, with_step, with_trans};
 ghost use Rattle.moxi_to_btor.specs.Putting.{CanPutFormula, CanPutInit, CanPutInv, CanPutPart, CanPutParts, CanPutStep, CanPutTrans};
 
 use crate::lines::put_constraint;

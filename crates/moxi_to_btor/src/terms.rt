@@ -1,5 +1,5 @@
 // The lines of terms.
-ghost use Rattle.std.specs.Prelude.{◌≡◌, ◌<◌, ◌++◌, ◌∷◌, ◌^◌, [], map, length, IfOk, OnOk};
+ghost use Rattle.std.specs.Prelude.{◌≡◌, ◌<◌, ◌++◌, ◌^◌, map, IfOk, OnOk};
 ghost use Rattle.moxi_terms.specs.Tree.{trees_of};
 ghost use Rattle.moxi_terms.specs.View.{plain};
 ghost use Rattle.moxi_lines.specs.TermLines.{place_in};

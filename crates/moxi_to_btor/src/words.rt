@@ -1,5 +1,5 @@
 // Single lines. An equal constant or operator line that exists is reused.
-ghost use Rattle.std.specs.Prelude.{◌≡◌, ◌+◌, ◌<◌, ◌^◌, IfOk};
+ghost use Rattle.std.specs.Prelude.{◌≡◌, ◌+◌, ◌<◌, IfOk};
 ghost use Rattle.moxi_lines.specs.TermLines.{with_binary, with_constant, with_ite, with_signs, with_slice, with_unary, with_word, with_zeros};
 ghost use Rattle.moxi_to_btor.specs.TermPutting.{CanPut, CanPutBinary, CanPutConstant, CanPutIte, CanPutSigns, CanPutSlice, CanPutUnary, CanPutZeros};
 

@@ -82,9 +82,6 @@ goes_statement d can q v x more front rest ss at h =
 
 -- ---- all statements
 
-pub somes : List Datum → Stated
-somes xs = map Some xs
-
 goes_statements : (d : Declared) (can : CanBeReadBack d) (q : ℕ) (vs : List Variable) (xs : List Datum) (more : List ℕ) (front : Stated) (ss : Steps)
     → ((j : ℕ) (v : Variable) → slice_get vs j ≡ Some v → slice_get d.variables (length front + j) ≡ Some v) → Fit d.enumerations (sorts_of vs) xs
     → Goes d (statements_text d.enumerations vs xs ++ more) (here point.Statements q (front ++ nothing_stated vs) ss) more (here point.Statements q (front ++ map Some xs) ss)

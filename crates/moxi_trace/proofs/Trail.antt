@@ -28,7 +28,7 @@ use Rattle.moxi_trace.specs.Reading.{value_at, value_read, is_bracket}
 use Rattle.moxi_trace.proofs.Spelled.{Parts, closing_parts, symbol_token, binary_token}
 use Rattle.moxi_trace.proofs.Going.{Standing, reading, Goes, Leads, goes_token}
 use Rattle.moxi_trace.proofs.Head.{here}
-use Rattle.word_core.proofs.BinaryDigits.{digits_long}
+use Rattle.text_core.proofs.BinaryLemmas.{digits_long}
 
 -- ---- tokens of one byte or more
 

@@ -1,8 +1,8 @@
 // The printer of responses.
-ghost use Rattle.std.specs.Prelude.{◌≡◌, ◌++◌, ◌<◌, ◌^◌, codes, length, map, OnOk, IfOk};
+ghost use Rattle.std.specs.Prelude.{◌≡◌, ◌++◌, ◌<◌, codes, map, OnOk, IfOk};
 ghost use Rattle.text_core.specs.Binary.{binary_digits};
 ghost use Rattle.moxi_trace.specs.ReadBack.{ReadsBack};
-ghost use Rattle.moxi_trace.specs.Texts.{symbol_text, constants_of, constant_name, truth_text, value_text, front_text, fronted_text, step_text, steps_text, words_of_response, words_of_query, words_of_result, words_of_trace, head_text, response_text};
+ghost use Rattle.moxi_trace.specs.Texts.{constant_name, truth_text, value_text, front_text, fronted_text, step_text, steps_text, words_of_response, words_of_query, words_of_result, words_of_trace, head_text, response_text};
 ghost use Rattle.moxi_term_print.specs.Terms.{name_at};
 
 use crate::declarations::Declarations;

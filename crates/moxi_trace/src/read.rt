@@ -1,10 +1,9 @@
 // The reader of a whole text.
 ghost use Rattle.std.specs.Prelude.{◌≡◌, ◌≤◌, ◌∷◌, ◌-◌, length, IfOk};
-ghost use Rattle.text_core.specs.Places.{start, next_place, Reaches};
+ghost use Rattle.text_core.specs.Places.{start};
 ghost use Rattle.moxi_trace.specs.Tokens.{token_of};
 ghost use Rattle.moxi_trace.specs.Traces.{HasOwnNames};
-ghost use Rattle.moxi_trace.specs.Reading.{begin};
-ghost use Rattle.moxi_trace.specs.Responses.{token_read, byte_read, read_from, response_of, answered, IsStatedResponse};
+ghost use Rattle.moxi_trace.specs.Responses.{token_read, byte_read, read_from, response_of, IsStatedResponse};
 ghost use Rattle.moxi_trace.specs.Answer.{Finishes, Passes};
 ghost use Rattle.text_core.specs.Answers.{Answers};
 

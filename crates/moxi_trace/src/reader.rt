@@ -1,14 +1,12 @@
 // The reader of a response, token by token.
-ghost use Rattle.std.specs.Prelude.{◌≡◌, ◌<◌, ◌≤◌, ◌+◌, ◌-◌, ◌^◌, ◌&&◌, ◌∷◌, ◌++◌, not, length, decimal, replicate, Some, None, is_some, is_none, Ok, Err, IfOk, OnOk, slice_set};
-ghost use Rattle.std.specs.List.{list_any};
-ghost use Rattle.std.specs.Str.{bytes_eq};
+ghost use Rattle.std.specs.Prelude.{◌≡◌, ◌<◌, ◌+◌, ◌-◌, ◌^◌, ◌&&◌, length, replicate, Some, None, is_some, is_none, Ok, Err, IfOk, OnOk};
 ghost use Rattle.text_core.specs.declared.end.End.TheVariants as end;
 ghost use Rattle.text_core.specs.declared.place.Kind.TheVariants as kind;
 ghost use Rattle.name_maps.specs.Names.{place_of};
 ghost use Rattle.moxi_trace.specs.declared.point.Point.TheVariants as point;
 ghost use Rattle.moxi_trace.specs.declared.tokens.Shape.TheVariants as shape;
-ghost use Rattle.moxi_trace.specs.Reading.{at_point, order, first_of, with_failing, settled_by, on_line, is_head_symbol, is_head_keyword, is_head_token, past_head, head_step, is_symbol, symbol_step, system_named, query_named, close_step, step_begun, steps_step, is_number, is_numeral, number_step, nothing_stated, lacks, values_of, tested, with_step, statements_step, is_stated, variable_named, variable_step, is_bracket, value_at, with_value, value_read, value_step, any_step, point_step, token_step, step, stray, is_whole, ended, finished, begin};
-ghost use Rattle.text_core.specs.Bytes.{without_zeros, is_empty};
+ghost use Rattle.moxi_trace.specs.Reading.{at_point, order, first_of, with_failing, settled_by, on_line, is_head_symbol, is_head_keyword, is_head_token, past_head, head_step, is_symbol, system_named, query_named, close_step, step_begun, steps_step, is_number, is_numeral, number_step, nothing_stated, lacks, values_of, tested, with_step, statements_step, is_stated, variable_named, variable_step, is_bracket, with_value, value_read, value_step, any_step, point_step, token_step, step, stray, is_whole, ended, finished, begin};
+ghost use Rattle.text_core.specs.Bytes.{without_zeros};
 ghost use Rattle.text_core.specs.Answers.{Leaves};
 
 use crate::point::{Answered, Failing, Point};

@@ -1,5 +1,5 @@
 // The declarations that a response is read against, with an index of names.
-ghost use Rattle.std.specs.Prelude.{◌≡◌, ◌<◌, ◌≤◌, ◌^◌, ◌+◌, ◌++◌, [], true, Some, None, map, length, IfOk, IfSome, option_and_then, slice_get};
+ghost use Rattle.std.specs.Prelude.{◌≡◌, ◌<◌, ◌≤◌, ◌^◌, ◌+◌, [], true, Some, None, length, IfOk};
 ghost use Rattle.name_maps.specs.Names.{are_fresh, place_of};
 ghost use Rattle.moxi_trace.specs.Traces.{HasOwnNames, names_of, is_within};
 ghost use Rattle.moxi_trace.specs.Values.{value_of};

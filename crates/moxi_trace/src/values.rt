@@ -1,12 +1,9 @@
 // Values in a response.
-ghost use Rattle.std.specs.Prelude.{◌≡◌, option_map, length};
-ghost use Rattle.moxi_terms.specs.Names.{or_else, function_names};
-ghost use Rattle.moxi_terms.specs.Meanings.{value_named, bare_call, call_of};
-ghost use Rattle.name_maps.specs.Names.{place_of};
+ghost use Rattle.std.specs.Prelude.{◌≡◌};
 ghost use Rattle.moxi_terms.specs.Sorts.{same_sort};
 ghost use Rattle.moxi_terms.specs.declared.data.Datum.TheVariants as datum;
 ghost use Rattle.moxi_terms.specs.declared.data.Sort.TheVariants as sort;
-ghost use Rattle.moxi_trace.specs.Values.{if_same, constant_named, constant_of, symbol_value, word_value, value_of, meant_value};
+ghost use Rattle.moxi_trace.specs.Values.{if_same, symbol_value, word_value, value_of, meant_value};
 
 use crate::tokens::Shape;
 use moxi_terms::{Datum, Meaning, Scope, Sort};

@@ -26,20 +26,12 @@ pub held_first : {V : Type 0} (first : Option (NamedValue V)) (rest : List (Name
 held_first None rest i x o e h = h ∙ sym e
 held_first (Some r) rest i x o e h = h ∙ ap (λ p. or_row p (is_row_of r i x) r.value) (sym e)
 
-pub held_rest : {V : Type 0} (first : Option (NamedValue V)) (rest : List (NamedValue V)) (i : ℕ) (x : List ℕ) (v : V) → last_named rest i x ≡ Some v → Some v ≡ last_named (rows_of first rest) i x
-held_rest None rest i x v e = sym e
-held_rest (Some r) rest i x v e = ap (λ p. or_row p (is_row_of r i x) r.value) (sym e)
-
 -- rows of which the last tells are as those without it where it is of another name
 pub held_before : {V : Type 0} (first second : Option (NamedValue V)) (rest : List (NamedValue V)) (i : ℕ) (x : List ℕ) (o : Option V) → last_named rest i x ≡ None
     → o ≡ last_named (rows_of first (rows_of second [])) i x → o ≡ last_named (rows_of first (rows_of second rest)) i x
 held_before first None rest i x o e h = held_first first rest i x o e h
 held_before None (Some r) rest i x o e h = held_first (Some r) rest i x o e h
 held_before (Some q) (Some r) rest i x o e h = h ∙ ap (λ p. or_row (or_row p (is_row_of r i x) r.value) (is_row_of q i x) q.value) (sym e)
-
-pub held_behind : {V : Type 0} (first second : Option (NamedValue V)) (rest : List (NamedValue V)) (i : ℕ) (x : List ℕ) (v : V) → last_named rest i x ≡ Some v
-    → Some v ≡ last_named (rows_of first (rows_of second rest)) i x
-held_behind first second rest i x v e = held_rest first (rows_of second rest) i x v (sym (held_rest second rest i x v e))
 
 set_here : {X : Type 0} (xs : List X) (i : ℕ) (w : X) → i < length xs → slice_get (set xs i w) i ≡ Some w
 set_here [] i w h = absurd (omega (arith, h))
@@ -52,23 +44,6 @@ set_elsewhere (x ∷ xs) zero zero w h = absurd (h refl)
 set_elsewhere (x ∷ xs) zero (suc j) w h = refl
 set_elsewhere (x ∷ xs) (suc i) zero w h = refl
 set_elsewhere (x ∷ xs) (suc i) (suc j) w h = set_elsewhere xs i j w (λ e. h (ap suc e))
-
--- the first row of a bucket
-pub first_put : {V : Type 0} (first second : Option (NamedValue V)) (rest : List (NamedValue V)) (r : NamedValue V) → first ≡ None → second ≡ None → rest ≡ []
-    → (i : ℕ) (x : List ℕ) → last_named (rows_of (Some r) (rows_of second rest)) i x ≡ (if is_row_of r i x then Some r.value else last_named (rows_of first (rows_of second rest)) i x)
-first_put first second rest r ef es er i x =
-    let n : rows_of second rest ≡ [] = ap (λ o. rows_of o rest) es ∙ er in
-    ap (λ l. last_named (r ∷ l) i x) n ∙ ap (λ l. if is_row_of r i x then Some r.value else last_named l i x) (sym (ap (λ o. rows_of o (rows_of second rest)) ef ∙ n))
-
--- the second row of a bucket
-pub second_put : {V : Type 0} (first second : Option (NamedValue V)) (rest : List (NamedValue V)) (r : NamedValue V) → second ≡ None → rest ≡ []
-    → (i : ℕ) (x : List ℕ) → last_named (rows_of first (rows_of (Some r) rest)) i x ≡ (if is_row_of r i x then Some r.value else last_named (rows_of first (rows_of second rest)) i x)
-second_put first second rest r es er i x =
-    ap (λ l. last_named (rows_of first (r ∷ l)) i x) er ∙ over first ∙ ap (λ l. if is_row_of r i x then Some r.value else last_named (rows_of first l) i x) (sym (ap (λ o. rows_of o rest) es ∙ er))
-  where
-    over : (o : Option (NamedValue _)) → last_named (rows_of o (r ∷ [])) i x ≡ (if is_row_of r i x then Some r.value else last_named (rows_of o []) i x)
-    over None = last_push [] r i x
-    over (Some f) = last_push (f ∷ []) r i x
 
 -- a row behind the others of a bucket
 pub rest_put : {V : Type 0} (first second : Option (NamedValue V)) (rest new : List (NamedValue V)) (r : NamedValue V) → new ≡ rest ++ r ∷ []

@@ -1,5 +1,5 @@
 // Values of names in instances, found by a hash of an instance's number and a name's bytes.
-ghost use Rattle.std.specs.Prelude.{◌≡◌, ◌<◌, ◌+◌, ◌*◌, ◌%◌, ◌&&◌, ◌==◌, [], List, ℕ, Some, None, length, OnOk, IfOk, bytes_eq, if◌then◌else◌};
+ghost use Rattle.std.specs.Prelude.{◌≡◌, ◌<◌, ◌+◌, ◌*◌, ◌%◌, ◌&&◌, ◌==◌, [], List, ℕ, Some, None, length, OnOk, IfOk, if◌then◌else◌};
 ghost use Rattle.name_maps.specs.Rows.{number_on, is_row_of, last_named, rows_of, held_named, buckets_named, TakesRow};
 
 use std::alloc::Global;

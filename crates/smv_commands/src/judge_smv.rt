@@ -11,7 +11,6 @@ ghost use Rattle.witness_lift.specs.Breaking.{IsFormOf};
 ghost use Rattle.command_core.specs.declared.answer.Stop.TheVariants as Stop;
 ghost use Rattle.smv_commands.specs.SmvJudgement.{IsSmvJudgement, verdict_answer};
 ghost use Rattle.smv_commands.specs.Traces.{IsRunAnswer, OfForm, trace_too_long, OfBytes};
-ghost use Rattle.trace_lower.specs.Lowered.{verdict_on};
 ghost use Rattle.smv_commands.specs.Limits.{most_trace_bytes, most_smv_bytes};
 ghost use Rattle.smv_commands.specs.Models.{smv_too_long};
 

@@ -1,7 +1,5 @@
 // SMV models, parsed from bytes.
-ghost use Rattle.std.specs.Prelude.{◌≡◌, ◌≤◌, length, IfOk, IfErr};
-ghost use Rattle.text_core.specs.Places.{start, after};
-ghost use Rattle.smv_text.specs.Lexing.{Lexes};
+ghost use Rattle.std.specs.Prelude.{◌≤◌, length, IfOk, IfErr};
 ghost use Rattle.smv_text.specs.View.{plain_source};
 ghost use Rattle.smv_commands.specs.Limits.{most_smv_bytes};
 ghost use Rattle.smv_commands.specs.Models.{IsFormIn, IsModel, IsModelEnd, IsTextEnd};

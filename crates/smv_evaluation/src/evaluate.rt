@@ -1,5 +1,5 @@
 // Evaluation of an expression in an instance, given the stored values of its names.
-ghost use Rattle.std.specs.Prelude.{◌≡◌, ◌≤◌, ◌<◌, ◌+◌, map, max, if◌then◌else◌, IfSome};
+ghost use Rattle.std.specs.Prelude.{◌≡◌, ◌≤◌, ◌<◌, ◌+◌, map, max, IfSome};
 ghost use Rattle.smv_text.specs.Tree.{links_of, branches_of, trees_of};
 ghost use Rattle.smv_text.specs.View.{plain, plain_branch, plain_link};
 ghost use Rattle.smv_meaning.specs.Operators.{called};

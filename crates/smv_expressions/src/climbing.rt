@@ -2,14 +2,14 @@
 // Its functions are separate so that each has a small frame: 100 nested brackets with all levels in each fit a usual
 // stack.
 
-ghost use Rattle.std.specs.Prelude.{◌≡◌, ◌<◌, ◌≤◌, ◌-◌, ◌^◌, List, ◌∷◌, [], true, length, IfOk};
+ghost use Rattle.std.specs.Prelude.{◌≡◌, ◌<◌, ◌≤◌, ◌-◌, ◌^◌, ◌∷◌, [], true, length, IfOk};
 ghost use Rattle.smv_text.specs.Levels.{all_levels};
-ghost use Rattle.smv_text.specs.Grammar.{start, Spells};
+ghost use Rattle.smv_text.specs.Grammar.{start};
 ghost use Rattle.smv_text.specs.Tree.{Tree, cases, branches_of};
 ghost use Rattle.smv_grammar.specs.Kept.{cap};
 ghost use Rattle.smv_grammar.specs.Ranks.{level_at, tightest};
 ghost use Rattle.smv_expressions.specs.Gathered.{read_of, AreMembers, AreCases, AreOperands, IsChoice};
-ghost use Rattle.smv_grammar.specs.Machine.{bare, operand, when, selected, condition, listing, ask, have, signed, open_next, opened, prefix_sign, closing_of, leader_of, whole, choice_at, listed};
+ghost use Rattle.smv_grammar.specs.Machine.{bare, operand, when, selected, condition, listing, ask, have, signed, open_next, opened, prefix_sign, closing_of, leader_of, listed};
 ghost use Rattle.std.specs.Bool.{OnTrue};
 ghost use Rattle.smv_grammar.specs.Reading.{starts_range, waiting};
 ghost use Rattle.smv_expressions.specs.Following.{chain_from, chain_of, choice_from, choice_of, IsOperand, Begins, first_level, is_alone, Collects, Follows, Selects, Takes};

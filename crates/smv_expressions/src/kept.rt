@@ -3,7 +3,6 @@
 ghost use Rattle.std.specs.Prelude.{◌≡◌, ◌<◌, ◌+◌, ◌∷◌, ◌++◌, [], max, ℕ, List, IfOk, IfErr, OnOk};
 ghost use Rattle.smv_text.specs.Heights.{height, chain_height, is_implied, is_joined, joined_number};
 ghost use Rattle.smv_text.specs.Tree.{Tree, prefix, select, next, cases, branches_of};
-ghost use Rattle.smv_text.specs.View.{plain};
 ghost use Rattle.smv_expressions.specs.declared.stop.Stop.TheVariants.{NoMemory};
 ghost use Rattle.smv_grammar.specs.Kept.{cap, capped, keep_at};
 ghost use Rattle.smv_grammar.specs.Machine.{listed, choice_at, whole};

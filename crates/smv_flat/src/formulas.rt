@@ -1,5 +1,5 @@
 // The flat form of a model's formulas.
-ghost use Rattle.std.specs.Prelude.{◌≡◌, ◌<◌, true, ◌+◌, ◌^◌, ◌++◌, ◌∷◌, [], length, map, flat_map, OnOk, IfOk};
+ghost use Rattle.std.specs.Prelude.{◌≡◌, ◌<◌, ◌+◌, ◌^◌, ◌++◌, ◌∷◌, [], length, map, flat_map, OnOk, IfOk};
 ghost use Rattle.smv_text.specs.View.{plain_assignment, plain_element};
 ghost use Rattle.smv_meaning.specs.Phases.{in_assignment};
 ghost use Rattle.smv_instances.specs.View.{instance_plain};

@@ -1,5 +1,5 @@
 // Evaluation of flat expressions, given the values of items.
-ghost use Rattle.std.specs.Prelude.{◌≡◌, [], ◌∷◌, map};
+ghost use Rattle.std.specs.Prelude.{◌≡◌, map};
 ghost use Rattle.smv_meaning.specs.Operators.{called};
 ghost use Rattle.smv_meaning.specs.Values.{is_between};
 ghost use Rattle.smv_meaning.specs.Expressions.{is_implies};

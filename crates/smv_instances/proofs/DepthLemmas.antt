@@ -1,19 +1,18 @@
 -- How deep leads are.
-use Rattle.std.proofs.Common.{◌≡◌, ℕ, ◌+◌, ◌<◌, ◌≤◌, ◌-◌, ◌^◌, Bool, true, false, ◌&&◌, ◌==◌, if◌then◌else◌, List, [], ◌∷◌, length, Option, Some, None, is_some, bytes_eq, refl, sym, ap, ◌∙◌, subst, arith}
+use Rattle.std.proofs.Common.{◌≡◌, ℕ, ◌+◌, ◌<◌, ◌≤◌, ◌-◌, Bool, true, false, ◌&&◌, ◌==◌, if◌then◌else◌, List, [], ◌∷◌, length, Option, Some, None, is_some, bytes_eq, refl, sym, ap, ◌∙◌, subst, arith}
 use mathlib.Core.Logic.{⊎_elim}
-use Rattle.std.specs.Prelude.{min}
 use Rattle.std.specs.List.{list_any}
 use Rattle.std.proofs.lemmas.Bool.{eq-eqb}
 use Rattle.std.proofs.lemmas.Slice.Eq.{bytes_eq-Decides}
 use Rattle.name_maps.specs.declared.instance_rows.InstanceRows.{InstanceRows}
 use Rattle.name_maps.specs.Rows.{row_in}
 use Rattle.smv_meaning.specs.Instances.{Instance}
-use Rattle.smv_meaning.specs.Names.{Found, cyclic, local}
+use Rattle.smv_meaning.specs.Names.{local}
 use Rattle.smv_meaning.specs.laws.Booleans.{or_true}
 use Rattle.smv_instances.specs.declared.leads.Lead.{Lead}
 use Rattle.smv_instances.specs.declared.leads.Key.{Key}
-use Rattle.smv_instances.specs.Leads.{until, is_alias, Right, NameLeads, LeadAt, IsShallow, IsWithin, is_key, led, AreCounted}
-use Rattle.smv_instances.proofs.LeadLemmas.{past, before, key_same}
+use Rattle.smv_instances.specs.Leads.{is_alias, Right, NameLeads, LeadAt, IsShallow, IsWithin, is_key, led, AreCounted}
+use Rattle.smv_instances.proofs.LeadLemmas.{key_same}
 
 -- a lead that is kept
 pub lead_kept : (t : List Instance) (m : InstanceRows Lead) (i : ℕ) (x : List ℕ) (o : Option Lead) → Right t m → is_alias (local t i x) ≡ true → o ≡ row_in m i x → LeadAt t m i x o
@@ -113,14 +112,3 @@ depth_fits m ks i x depth c w o a =
     let s = w (led m ks) c in
     let r = led_room m ks i x a o in
     omega (arith, s, r)
-
--- no leads are counted
-pub none_counted : (m : InstanceRows Lead) (ks : List Key) → ((i : ℕ) (x : List ℕ) → row_in m i x ≡ None) → AreCounted m ks
-none_counted m ks h i x = subst (IsShallow (led m ks)) (sym (h i x)) tt
-
--- what is reached within a count that stops at the greatest number
-pub cut_off : (s d n : ℕ) (m : Found) → s ≡ min n (2 ^ 64 - 1) → d < 2 ^ 64 → s < d → until d n m ≡ cyclic
-cut_off s d n m e f h = before d n m (omega (arith, e, f, h))
-
-pub not_cut_off : (s d n : ℕ) (m : Found) → s ≡ min n (2 ^ 64 - 1) → d ≤ s → until d n m ≡ m
-not_cut_off s d n m e h = past d n m (omega (arith, e, h))

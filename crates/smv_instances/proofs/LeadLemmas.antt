@@ -180,9 +180,6 @@ kept_closed t was now i x lead k o = some_none (i == i) (bytes_eq x x) (eq-eqb i
 abbrev pub NoneOpen : List Instance → InstanceRows Lead → List Key → Type 0
 NoneOpen t m ks = (i : ℕ) (x : List ℕ) → list_any (is_key i x) ks ≡ true → ¬ IsOpen t m i x
 
-pub none_open : (t : List Instance) (m : InstanceRows Lead) (ks : List Key) → NoneOpen t m ks → AllWait t m ks
-none_open t m ks h i x a o = absurd (h i x a o)
-
 -- one parameter more is not open
 pub none_more : (t : List Instance) (was now : InstanceRows Lead) (ks : List Key) (k n : ℕ) (key : Key) → n ≡ length ks → k < n → key ≡ slice_index_or ks k key
     → StaysClosed t was now → ¬ IsOpen t now key.instance key.name.now → NoneOpen t was (take k ks) → NoneOpen t now (take (k + 1) ks)

@@ -1,6 +1,6 @@
 // The instances of a model, numbered in preorder.
-ghost use Rattle.std.specs.Prelude.{◌≡◌, ◌+◌, ◌<◌, ◌++◌, ◌∷◌, [], map, List, IfOk, length};
-ghost use Rattle.smv_text.specs.View.{plain_module, plain_element, plain_item, plain_source};
+ghost use Rattle.std.specs.Prelude.{◌≡◌, ◌<◌, [], map, IfOk};
+ghost use Rattle.smv_text.specs.View.{plain_module, plain_item, plain_source};
 ghost use Rattle.smv_meaning.specs.Instances.{dotted, child_of, grow, grow_items, instances_of};
 ghost use Rattle.smv_instances.specs.View.{instance_plain, instance_or_none};
 

@@ -1,7 +1,7 @@
 // The instances of a model, with the meaning of single names in them.
 ghost use Rattle.std.specs.Prelude.{◌≡◌, ◌<◌, ◌-◌, ◌^◌, min, length, map, position, slice_index_or, sum_by, IfOk};
 ghost use Rattle.smv_text.specs.View.{plain_element};
-ghost use Rattle.smv_meaning.specs.Names.{definitions_in, bodies_in, steps_of, local, is_child, has_symbol};
+ghost use Rattle.smv_meaning.specs.Names.{definitions_in, steps_of, local, is_child, has_symbol};
 ghost use Rattle.smv_instances.specs.View.{instance_plain, local_plain};
 
 use crate::children::{Children, children_of};

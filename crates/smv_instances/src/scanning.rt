@@ -1,5 +1,5 @@
 // Lookup of a name in an instance of a small module, by a scan of the module.
-ghost use Rattle.std.specs.Prelude.{◌≡◌, List, ℕ, Some, map};
+ghost use Rattle.std.specs.Prelude.{◌≡◌, Some, map};
 ghost use Rattle.smv_text.specs.Tree.{trees_of};
 ghost use Rattle.smv_text.specs.View.{plain, plain_item, plain_definition, plain_element, plain_module};
 ghost use Rattle.smv_meaning.specs.Names.{Local, among_items, among_definitions, among_elements, among_parameters, local_in};

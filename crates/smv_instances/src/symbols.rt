@@ -3,7 +3,7 @@ ghost use Rattle.std.specs.Prelude.{◌≡◌, ◌||◌, List, ℕ, is_some, map
 ghost use Rattle.std.specs.List.{list_any};
 ghost use Rattle.smv_text.specs.View.{plain_item, plain_element};
 ghost use Rattle.smv_meaning.specs.Instances.{is_one_of};
-ghost use Rattle.smv_meaning.specs.Names.{is_symbol, domain_has, item_has, element_has, has_symbol};
+ghost use Rattle.smv_meaning.specs.Names.{is_symbol, item_has, element_has, has_symbol};
 ghost use Rattle.name_maps.specs.Maps.{named};
 ghost use Rattle.smv_instances.specs.View.{instance_plain};
 

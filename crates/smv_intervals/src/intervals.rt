@@ -1,5 +1,5 @@
 // Intervals of integers. Each bound is computed in 128 bits and tested against the limit before it is stored in 64.
-ghost use Rattle.std.specs.Prelude.{◌≡◌, ◌≤◌, ◌<◌, ◌≤ℤ◌, ◌^◌, ◌-◌, ◌+ℤ◌, ◌-ℤ◌, ◌*ℤ◌, neg_ℤ, int_div, nat_abs, unsigned_abs, pos, Option, None, Some, option_map};
+ghost use Rattle.std.specs.Prelude.{◌≡◌, ◌≤◌, ◌<◌, ◌≤ℤ◌, ◌^◌, ◌-◌, ◌+ℤ◌, ◌-ℤ◌, ◌*ℤ◌, neg_ℤ, int_div, unsigned_abs, Option, None, Some};
 ghost use Rattle.std.specs.Int.{int_min, int_max};
 ghost use Rattle.smv_meaning.specs.Operators.{int_abs};
 ghost use Rattle.smv_meaning.specs.Types.{integer_type, hull, over_ends, over_both_ends, abs_type, quotient_type, rest_type, rest_low, rest_high};

@@ -37,10 +37,6 @@ use Rattle.smv_judge.specs.Stated.{list_at, end_before, IsCarried, judged_from}
 pub states_long : (items : List PlainFlatItem) (cs : List Change) (ns : List ℕ) → length (states_of items cs ns) ≡ length ns
 states_long items cs ns = length-map ns (state_at items cs)
 
-pub labels_long : (items : List PlainFlatItem) (cs : List Change) (ns : List ℕ) → length (labels_of items cs ns) ≡ length ns - 1
-labels_long items cs [] = refl
-labels_long items cs (n ∷ ns) = length-map ns (label_at items cs) ∙ omega arith
-
 at_map : (f : ℕ → List Given) (ns : List ℕ) (k : ℕ) → k < length ns → list_at (map f ns) k ≡ f (get_or ns k 0)
 at_map f [] k l = absurd (omega (arith, l))
 at_map f (n ∷ ns) zero l = refl

@@ -1,5 +1,5 @@
 // The check that the values of a row's variables are of their declared types.
-ghost use Rattle.std.specs.Prelude.{◌≡◌, map, if◌then◌else◌};
+ghost use Rattle.std.specs.Prelude.{◌≡◌, map};
 ghost use Rattle.smv_text.specs.declared.tree.Member.{Member};
 ghost use Rattle.smv_meaning.specs.Values.{value_same, member_value, is_among};
 ghost use Rattle.smv_intervals.specs.View.{seen};

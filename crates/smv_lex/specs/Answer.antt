@@ -10,19 +10,19 @@ use Rattle.smv_text.specs.Lexing.{TokenList, Lexes, IsLexRefusal}
 abbrev pub lex_refusal : List ℕ → Refusal → Type 0
 lex_refusal = IsLexRefusal
 
--- these tokens, or want of memory
+-- these tokens, or out of memory
 abbrev pub Reads : List Token → Result TokenList End → Type 0
 Reads ts (Ok tokens) = tokens.items ≡ ts
 Reads ts (Err (Bad why)) = ⊥
 Reads ts (Err NoMemory) = Unit {0}
 
--- this refusal, or want of memory
+-- this refusal, or out of memory
 abbrev pub Stops : Refusal → Result TokenList End → Type 0
 Stops why (Ok tokens) = ⊥
 Stops why (Err (Bad other)) = other ≡ why
 Stops why (Err NoMemory) = Unit {0}
 
--- the refusal of the text, or want of memory
+-- the refusal of the text, or out of memory
 abbrev pub IsRefused : List ℕ → End → Type 0
 IsRefused text (Bad why) = IsLexRefusal text why
 IsRefused text NoMemory = Unit {0}

@@ -1,7 +1,6 @@
 // Appending tokens. Each kind is written straight into the list, since kinds are large and tokens are many.
 ghost use Rattle.std.specs.Prelude.{◌≡◌, ◌≢◌, ◌<◌, ◌≤◌, ◌^◌, [], ◌∷◌, ◌++◌, Some, false, length, take, vec_len, vec_capacity, OnOk, IfErr};
 ghost use Rattle.text_core.specs.Bytes.{is_digit};
-ghost use Rattle.text_core.specs.Places.{Reaches};
 ghost use Rattle.text_core.specs.declared.end.End.TheVariants as ended;
 ghost use Rattle.smv_text.specs.Bytes.{is_letter};
 ghost use Rattle.smv_text.specs.Lexing.{most_brackets};

@@ -1,15 +1,14 @@
 // The lexer.
-ghost use Rattle.std.specs.Prelude.{◌≡◌, ℕ, ◌<◌, ◌≤◌, ◌≢◌, ◌^◌, [], List, Some, length, take, drop, false, IfOk, IfErr};
+ghost use Rattle.std.specs.Prelude.{◌≡◌, ℕ, ◌<◌, ◌≤◌, ◌^◌, List, Some, length, IfOk, IfErr};
 ghost use Rattle.text_core.specs.declared.place.Refusal.{Refusal};
 ghost use Rattle.smv_text.specs.declared.token.Token.{Token};
 ghost use Rattle.smv_text.specs.declared.token.TokenKind.{TokenKind};
 ghost use Rattle.smv_text.specs.declared.token.Sign.{Sign};
 ghost use Rattle.smv_text.specs.declared.token.Reserved.{Reserved};
-ghost use Rattle.text_core.specs.Places.{after, start, Reaches};
+ghost use Rattle.text_core.specs.Places.{after, start};
 ghost use Rattle.smv_text.specs.Signs.{sign_bytes};
 ghost use Rattle.smv_text.specs.Keywords.{word_bytes};
 ghost use Rattle.smv_text.specs.Words.{kind_of};
-ghost use Rattle.smv_lex.specs.Reading.{gap_length};
 ghost use Rattle.smv_lex.specs.Answer.{Reads, Stops, IsRefused, IsAnswered, lex_refusal};
 ghost use Rattle.smv_lex.specs.Spelling.{joined};
 ghost use Rattle.smv_lex.specs.Printable.{ArePrintable, CanAllBePrinted};

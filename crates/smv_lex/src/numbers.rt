@@ -1,8 +1,7 @@
 // Runs that begin with a digit: decimal numbers and word literals.
 ghost use Rattle.std.specs.Prelude.{◌≡◌, ◌⊎◌, ◌≤◌, length, IfOk};
-ghost use Rattle.word_core.specs.Digits.{digits_value, read_word};
 ghost use Rattle.smv_text.specs.Bytes.{front_length};
-ghost use Rattle.smv_text.specs.Numbers.{bare, base_of, based_word, literal_of, marked_word, number_of, parted_word, past_sign};
+ghost use Rattle.smv_text.specs.Numbers.{bare, base_of, based_word, literal_of, number_of, parted_word, past_sign};
 ghost use Rattle.smv_lex.specs.Reading.{is_unmarked, sized_word};
 ghost use Rattle.smv_text.specs.Words.{run_kind};
 

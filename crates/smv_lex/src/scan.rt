@@ -1,5 +1,5 @@
 // Parts of a text: gaps, words, runs and places.
-ghost use Rattle.std.specs.Prelude.{◌≡◌, ◌+◌, ◌<◌, ◌≤◌, ◌^◌, [], length, take, drop, false};
+ghost use Rattle.std.specs.Prelude.{◌≡◌, ◌+◌, ◌<◌, ◌≤◌, [], length, take, drop, false};
 ghost use Rattle.smv_text.specs.Bytes.{is_letter, is_blank, front_length};
 ghost use Rattle.smv_text.specs.Words.{in_word, in_run};
 ghost use Rattle.smv_lex.specs.Reading.{gap_step, gap_length, is_word_byte};

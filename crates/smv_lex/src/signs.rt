@@ -1,5 +1,5 @@
 // Signs: the longest one at a position.
-ghost use Rattle.std.specs.Prelude.{◌≡◌, drop, length};
+ghost use Rattle.std.specs.Prelude.{◌≡◌, length};
 ghost use Rattle.smv_lex.specs.Reading.{begins_comment, sign_at};
 ghost use Rattle.smv_text.specs.Signs.{sign_bytes};
 ghost use Rattle.smv_lex.specs.Reading as spec;

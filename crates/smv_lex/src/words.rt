@@ -1,6 +1,5 @@
 // Kinds of words: reserved, unsupported, and identifiers.
-ghost use Rattle.std.specs.Prelude.{◌≡◌, [], Some, map};
-ghost use Rattle.std.specs.Str.{bytes_eq};
+ghost use Rattle.std.specs.Prelude.{◌≡◌, Some, map};
 ghost use Rattle.smv_text.specs.Bytes.{look_up};
 ghost use Rattle.smv_text.specs.Keywords.{keywords};
 ghost use Rattle.smv_lex.specs.Reading.{last_of, may_be_keyword, row};

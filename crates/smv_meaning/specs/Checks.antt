@@ -222,7 +222,7 @@ abbrev pub variable_type : PlainDomain → Option ExprType
 variable_type d =
     if is_unmixed d && on_type (domain_type d) in_limit && has_width d && has_order d then domain_type d else None
 
--- the refusal is that of the first check that fails; of want of memory nothing is said
+-- the refusal is that of the first check that fails; of running out of memory nothing is said
 abbrev pub IsBad : End → Option Refusal → Type 0
 IsBad (Bad why) found = found ≡ Some why
 IsBad NoMemory found = Unit {0}

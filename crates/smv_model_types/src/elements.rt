@@ -1,5 +1,5 @@
 // The checks of the elements of instances, in the order of the text.
-ghost use Rattle.std.specs.Prelude.{◌≡◌, ◌<◌, true, map, flat_map, length, slice_index_or};
+ghost use Rattle.std.specs.Prelude.{◌≡◌, ◌<◌, true, map, flat_map};
 ghost use Rattle.smv_text.specs.Tree.{trees_of};
 ghost use Rattle.smv_text.specs.View.{plain, plain_item, plain_definition, plain_assignment, plain_element};
 ghost use Rattle.smv_meaning.specs.Phases.{actuals_typing, assigned_typing, element_typing, type_checks, names_in};

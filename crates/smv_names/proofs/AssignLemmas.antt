@@ -1,7 +1,6 @@
 -- What is assigned so far, and one assignment more.
-use Rattle.std.proofs.Common.{◌≡◌, ℕ, zero, suc, arith, ◌<◌, Bool, true, false, not, ◌&&◌, ◌||◌, if◌then◌else◌, ◌+◌, List, [], ◌∷◌, ◌++◌, take, map, length, Option, Some, None, bytes_eq, refl, sym, ap, ◌∙◌, subst}
+use Rattle.std.proofs.Common.{◌≡◌, ℕ, zero, suc, arith, ◌<◌, Bool, true, false, not, ◌&&◌, ◌||◌, if◌then◌else◌, ◌+◌, List, [], ◌∷◌, ◌++◌, take, map, length, Option, Some, None, bytes_eq, refl, sym, ap, ◌∙◌}
 use Rattle.std.proofs.lemmas.Bool.{false≢true}
-use Rattle.std.proofs.lemmas.List.{length-take-le}
 use Rattle.std.proofs.lemmas.Slice.Eq.{bytes_eq-Decides}
 use Rattle.std.proofs.Math.Numerals.{add-one}
 use Rattle.std.proofs.Math.Seq.{take-suc}
@@ -133,8 +132,3 @@ pub mapped_more : {X Y Z : Type 0} (f : Y → Z) (g : X → Y) (xs : List X) (ys
 mapped_more f g xs ys k x y h e is same =
     ap (λ z. ys ++ z ∷ []) same ∙ ap (λ l. l ++ f (g x) ∷ []) e ∙ sym (map_push f (map g (take k xs)) (g x)) ∙ ap (map f) (sym (map_push g (take k xs) x))
     ∙ ap (λ l. map f (map g l)) (sym (rw add-one (take-suc xs k x h ∙ ap (λ z. take k xs ++ z ∷ []) (sym is))))
-
--- an element of the front of a list that is mapped twice
-pub mapped_front : {X Y Z : Type 0} (f : Y → Z) (g : X → Y) (xs : List X) (ys : List Z) (k j : ℕ) (x : X) (y : Z) → k < length xs → j < k → ys ≡ map f (map g (take k xs)) → x ≡ slice_index_or xs j x → y ≡ slice_index_or ys j y → y ≡ f (g x)
-mapped_front f g xs ys k j x y h lt e is there =
-    there ∙ ap (λ l. slice_index_or l j y) e ∙ mapped f g (take k xs) j x y (subst (λ n. j < n) (sym (length-take-le k xs (omega (arith, h)))) lt) ∙ ap (λ z. f (g z)) (taken xs k j x lt ∙ sym is)

@@ -1,9 +1,9 @@
 // Checks of the declarations of an instance.
-ghost use Rattle.std.specs.Prelude.{◌≡◌, ◌≤◌, [], length, map, nat_le, Some};
+ghost use Rattle.std.specs.Prelude.{◌≡◌, [], length, map, nat_le, Some};
 ghost use Rattle.smv_text.specs.View.{plain_item, plain_module, plain_source};
 ghost use Rattle.smv_meaning.specs.Instances.{dotted, is_one_of, instances_of};
 ghost use Rattle.smv_meaning.specs.Checks.{first_failing};
-ghost use Rattle.smv_meaning.specs.Phases.{takes, item_checks, declared_in, declares_instance, longest_path, most_instances, declared_checks, counted_all, declaration_checks};
+ghost use Rattle.smv_meaning.specs.Phases.{item_checks, declared_in, declares_instance, longest_path, declared_checks, counted_all, declaration_checks};
 ghost use Rattle.smv_names.specs.Outcome.{Settles, Counts};
 ghost use Rattle.smv_names.specs.View.{declared_plain, names_above};
 ghost use Rattle.smv_names.specs.Visits.{checks_behind_name};

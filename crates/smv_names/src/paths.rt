@@ -1,10 +1,8 @@
 // The check that each path has a target.
-ghost use Rattle.std.specs.Prelude.{◌≡◌, ◌++◌, ◌∷◌, [], List, ℕ, map, flat_map, OnOk, unwrap_or};
-ghost use Rattle.smv_text.specs.Tree.{trees_of};
-ghost use Rattle.smv_text.specs.View.{plain, plain_definition, plain_assignment, plain_element};
+ghost use Rattle.std.specs.Prelude.{◌≡◌, ◌++◌, List, map, flat_map, OnOk, unwrap_or};
+ghost use Rattle.smv_text.specs.View.{plain_definition, plain_assignment, plain_element};
 ghost use Rattle.smv_meaning.specs.Instances.{Instance as Specified};
-ghost use Rattle.smv_meaning.specs.Names.{found_in, Found};
-ghost use Rattle.smv_meaning.specs.Expressions.{paths_of, tree_paths};
+ghost use Rattle.smv_meaning.specs.Names.{found_in};
 ghost use Rattle.smv_meaning.specs.Phases.{is_something, path_check, path_checks, element_paths, over_instances};
 ghost use Rattle.smv_instances.specs.View.{instance_plain, found_plain};
 ghost use Rattle.smv_references.specs.View.{path_seen};

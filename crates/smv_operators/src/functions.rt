@@ -1,8 +1,8 @@
 // Functions of one and of two arguments.
-ghost use Rattle.std.specs.Prelude.{◌≡◌, ◌≤◌, ◌<◌, [], ◌∷◌, pos};
+ghost use Rattle.std.specs.Prelude.{◌≡◌, ◌≤◌, ◌<◌, [], ◌∷◌};
 ghost use Rattle.smv_meaning.specs.declared.value.Value.TheVariants as OfValue;
 ghost use Rattle.smv_text.specs.declared.operators.Function.TheVariants as OfFunction;
-ghost use Rattle.smv_meaning.specs.Operators.{called, resized, is_width};
+ghost use Rattle.smv_meaning.specs.Operators.{called, resized};
 ghost use Rattle.smv_meaning.specs.Safety.{Fits};
 ghost use Rattle.smv_operators.specs.View.{seen_value, plain_value};
 

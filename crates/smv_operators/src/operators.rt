@@ -1,10 +1,10 @@
 // Operators on values, each by its definition.
-ghost use Rattle.std.specs.Prelude.{◌≡◌, ◌+ℤ◌, ◌-ℤ◌, ◌*ℤ◌, ◌%◌, ◌&&◌, ◌||◌, ◌≤◌, ◌<◌, ◌^◌, not, pos, int_div, int_lt, int_le, [], ◌∷◌, ℕ};
+ghost use Rattle.std.specs.Prelude.{◌≡◌, ◌+ℤ◌, ◌-ℤ◌, ◌*ℤ◌, ◌%◌, ◌&&◌, ◌||◌, ◌≤◌, ◌<◌, not, int_div, int_lt, int_le, ℕ};
 ghost use Rattle.word_core.specs.Table.{BinaryFits};
 ghost use Rattle.word_core.specs.declared.kinds.Binary.TheVariants as OnWords;
 ghost use Rattle.smv_meaning.specs.declared.value.Value.TheVariants as OfValue;
 ghost use Rattle.smv_meaning.specs.Values.{no_value, bool_eq, value_same};
-ghost use Rattle.smv_meaning.specs.Operators.{word, operands_of, words_by, words_compared, logical, compared, calculated, shifted, concatenated, negation, minus, implied, int_mod, applied, signed, selected, resized, is_width, called};
+ghost use Rattle.smv_meaning.specs.Operators.{word, operands_of, words_by, words_compared, logical, compared, calculated, shifted, concatenated, negation, minus, implied, int_mod, applied, signed, selected};
 ghost use Rattle.smv_meaning.specs.Safety.{Fits};
 ghost use Rattle.smv_operators.specs.View.{seen_value, plain_value, pair_operands};
 

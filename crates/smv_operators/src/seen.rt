@@ -1,5 +1,5 @@
 // Values that borrow their symbols, so that evaluation copies no names.
-ghost use Rattle.std.specs.Prelude.{◌≡◌, ◌^◌, ◌<◌, IfOk};
+ghost use Rattle.std.specs.Prelude.{◌≡◌, ◌<◌, IfOk};
 ghost use Rattle.smv_meaning.specs.Values.{is_true, value_same, no_value};
 ghost use Rattle.smv_operators.specs.View.{seen_value};
 

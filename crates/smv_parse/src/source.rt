@@ -1,6 +1,6 @@
 // The parser of models.
 
-ghost use Rattle.std.specs.Prelude.{◌≡◌, ◌<◌, ◌^◌, ℕ, List, None, length, IfOk, IfErr};
+ghost use Rattle.std.specs.Prelude.{◌≡◌, ◌<◌, ◌^◌, None, length, IfOk, IfErr};
 ghost use Rattle.text_core.specs.declared.place.Place.{Place};
 ghost use Rattle.smv_text.specs.declared.token.Token.{Token};
 ghost use Rattle.smv_text.specs.Heights.{first_high, of_modules};

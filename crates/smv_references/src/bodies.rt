@@ -1,9 +1,9 @@
 // The definitions and actuals of a model, numbered in the order of their checks.
-ghost use Rattle.std.specs.Prelude.{◌≡◌, ◌<◌, ◌++◌, ◌∷◌, [], List, ℕ, map, flat_map, length, position, slice_index_or, IfOk, OnOk, is_some};
+ghost use Rattle.std.specs.Prelude.{◌≡◌, ◌<◌, ◌++◌, ◌∷◌, [], map, flat_map, IfOk, OnOk};
 ghost use Rattle.smv_text.specs.Tree.{trees_of};
 ghost use Rattle.smv_text.specs.View.{plain, plain_definition, plain_element};
-ghost use Rattle.smv_meaning.specs.Bodies.{Placed, actual_bodies, element_bodies, placed_definition, bodies_here, placed_bodies, bodies_of, number_in};
-ghost use Rattle.smv_meaning.specs.Phases.{over_instances, place_of};
+ghost use Rattle.smv_meaning.specs.Bodies.{actual_bodies, element_bodies, placed_definition, placed_bodies};
+ghost use Rattle.smv_meaning.specs.Phases.{place_of};
 ghost use Rattle.smv_instances.specs.View.{instance_plain};
 ghost use Rattle.smv_references.specs.View.{body_plain};
 

@@ -1,5 +1,5 @@
 // Values that are carried forward by the numbers of items.
-ghost use Rattle.std.specs.Prelude.{◌≡◌, length, map, replicate, slice_set, OnOk, IfOk};
+ghost use Rattle.std.specs.Prelude.{◌≡◌, map, replicate, slice_set, OnOk, IfOk};
 ghost use Rattle.smv_meaning.specs.Values.{no_value};
 ghost use Rattle.smv_operators.specs.View.{seen_value};
 ghost use Rattle.smv_rows.specs.Numbered.{set_by};

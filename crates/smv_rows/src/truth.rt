@@ -1,6 +1,5 @@
 // The truth of a flat form's formulas in rows.
 ghost use Rattle.std.specs.Prelude.{◌≡◌, ◌==◌, map, slice_get};
-ghost use Rattle.std.specs.List.{list_all};
 ghost use Rattle.smv_meaning.specs.Values.{is_true as truth};
 ghost use Rattle.smv_meaning.specs.Phases.{when_same};
 ghost use Rattle.smv_items.specs.FlatItemView.{item_plain};

@@ -32,9 +32,6 @@ two_bound s r = bound_locals t_and_u (s ∷ r ∷ [])
 pub one_let : (bounds : List Local) (s : Sort) → AreLetNames bounds → AreLetNames (bounds ++ one_bound s)
 one_let bounds s h = lets_append bounds (one_bound s) h (inl refl, tt)
 
-pub two_let : (bounds : List Local) (s r : Sort) → AreLetNames bounds → AreLetNames (bounds ++ two_bound s r)
-two_let bounds s r h = lets_append bounds (two_bound s r) h (inl refl, (inr refl, tt))
-
 pub one_long : (bounds : List Local) (s : Sort) → length (bounds ++ one_bound s) ≡ length bounds + 1
 one_long bounds s = length-append bounds (one_bound s)
 

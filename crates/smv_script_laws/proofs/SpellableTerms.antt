@@ -15,7 +15,6 @@ use Rattle.std.specs.Prelude.{codes}
 use Rattle.smv_script_laws.proofs.Spellable.{barred_spellable}
 use Rattle.smv_script.specs.Operators.{any_term, repeated, joins_with, infix_term, link_term, front_width, selected_term, resized_term, extended_term, counted_terms, sum_term, Arguments, function_term, among_term}
 use Rattle.smv_script.specs.Terms.{is_word, word_width, amount_of, is_name, arguments_of, Translation, Coding, translation, chain_translation, implied_term, folded_term, link_terms, link_members, chosen_translation, taken_translation, terms, members, are_flat_unions, all_join_with}
-use Rattle.moxi_terms.specs.Applications.{choice_term}
 
 pub record IsNamed (x : Translation) : Type 0 where
   pub term : (k : ℕ) → NamesAreSpellable (x.term k)
@@ -101,9 +100,6 @@ call_named w k OfFunction.Abs args (tree a (tree b more)) h = tt
 among_named : (named : Bool) (k : ℕ) (a : Tree) (x : Translation) → NamesAreSpellable a → IsNamed x → NamesAreSpellable (among_term named k a x.member)
 among_named true k a x h n = n.member k a h
 among_named false k a x h n = ((barred_spellable (codes "t") refl, tt), (h, tt), n.member (k + 1) (bound k) tt)
-
-choice_named : (q a b : Tree) → NamesAreSpellable q → NamesAreSpellable a → NamesAreSpellable b → NamesAreSpellable (choice_term q a b)
-choice_named q a b h k l = (h, (k, (l, tt)))
 
 mutual
   pub translation_named : (c : Coding) (e : FlatTree) → IsNamed (translation c e)

@@ -1,7 +1,7 @@
 -- Chains of the places at which a number stands.
 use Rattle.std.proofs.Common.{◌≡◌, ℕ, zero, suc, ◌+◌, ◌-◌, ◌≤◌, ◌<◌, ◌==◌, if◌then◌else◌, get_or, set, true, false, replicate, List, ◌∷◌, drop, length, refl, sym, ap, ◌∙◌, subst, arith, inl, inr}
 use Rattle.std.proofs.lemmas.Bool.Decides.{eqb_tells}
-use Rattle.std.proofs.lemmas.List.{drop_more, drop_all, get_or-replicate, get_or_read, get_or-set_same, get_or-set_other, length-set}
+use Rattle.std.proofs.lemmas.List.{drop_more, get_or_read, get_or-set_same, get_or-set_other, length-set}
 use Rattle.smv_script_terms.specs.Chains.{others_before, place_from, AreChained}
 
 others_here : (i n : ℕ) (ns : List ℕ) → n ≡ i → others_before i (n ∷ ns) ≡ 0
@@ -33,25 +33,6 @@ place_past q i ns h e =
     let r : others_before i (drop q ns) ≡ suc (others_before i (drop (q + 1) ns)) = ap (others_before i) (drop_more ns q 0 h) ∙ others_past i (get_or ns q 0) (drop (q + 1) ns) e in
     omega (arith, r)
 
--- no place is chained yet
-pub none_chained : (ns : List ℕ) (count : ℕ) → AreChained ns count (length ns) (replicate count (length ns)) ns
-none_chained ns count = record {
-  counted = length_replicate count;
-  placed = refl;
-  numbered = λ p h. refl;
-  first = λ i h. get_or-replicate count i (length ns) 0 h ∙ nothing_left i;
-  next = λ p h k. absurd (omega (arith, h, k));
-}
-  where
-    length_replicate : (n : ℕ) → length (replicate n (length ns)) ≡ n
-    length_replicate zero = refl
-    length_replicate (suc n) = ap suc (length_replicate n)
-
-    nothing_left : (i : ℕ) → length ns ≡ place_from (length ns) i ns
-    nothing_left i =
-        let r : others_before i (drop (length ns) ns) ≡ 0 = ap (others_before i) (drop_all (length ns) ns (omega arith)) in
-        omega (arith, r)
-
 -- one place more is put in front of its chain
 pub chained_more : (ns fs xs : List ℕ) (count j q : ℕ) → j ≡ q + 1 → q < length ns → get_or ns q 0 < count → AreChained ns count j fs xs
     → AreChained ns count q (set fs (get_or ns q 0) q) (set xs q (get_or fs (get_or ns q 0) 0))
@@ -75,22 +56,6 @@ chained_more ns fs xs count j q e h k c = record {
           ∙ get_or-set_same xs p (get_or fs (get_or ns p 0) 0) 0 (let t : p < length xs = omega (arith, l, c.placed) in t)
           ∙ c.first (get_or ns p 0) s ∙ ap (λ n. place_from n (get_or ns p 0) ns) (e ∙ ap (λ n. n + 1) r.1)
       | inr r ↦ get_or-set_other xs q p (get_or fs (get_or ns q 0) 0) 0 (λ t. r.1 (sym t)) ∙ c.next p (let t : j ≤ p = omega (arith, e, m, r.1) in t) l s
-    ]
-
--- the number at a place is not below the count
-pub chained_past : (ns fs xs : List ℕ) (count j q : ℕ) → j ≡ q + 1 → q < length ns → count ≤ get_or ns q 0 → AreChained ns count j fs xs → AreChained ns count q fs xs
-chained_past ns fs xs count j q e h k c = record {
-  counted = c.counted;
-  placed = c.placed;
-  numbered = λ p m. c.numbered p (let r : p < j = omega (arith, m, e) in r);
-  first = λ i m. c.first i m ∙ ap (λ n. place_from n i ns) e ∙ sym (place_past q i ns h (λ r. absurd (omega (arith, r, k, m))));
-  next = next_past;
-}
-  where
-    next_past : (p : ℕ) → q ≤ p → p < length ns → get_or ns p 0 < count → get_or xs p 0 ≡ place_from (p + 1) (get_or ns p 0) ns
-    next_past p m l s = elim (eqb_tells q p) [
-      | inl r ↦ absurd (let t : get_or ns q 0 < count = subst (λ n. get_or ns n 0 < count) (sym r.1) s in omega (arith, t, k))
-      | inr r ↦ c.next p (let t : j ≤ p = omega (arith, e, m, r.1) in t) l s
     ]
 
 number_at : (ns fs xs : List ℕ) (count j n : ℕ) → 0 < j → j ≤ length ns → n ≡ get_or xs (j - 1) n → AreChained ns count j fs xs → n ≡ get_or ns (j - 1) 0

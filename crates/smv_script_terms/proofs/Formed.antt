@@ -18,7 +18,7 @@ use Rattle.smv_flat.specs.laws.FlatSteps.{drop_item}
 use Rattle.moxi_terms.specs.declared.data.TermOp.TheVariants as op
 use Rattle.moxi_terms.specs.Tree.{Tree, variable, trees_of}
 use Rattle.smv_script.specs.Terms.{Coding, translation}
-use Rattle.smv_script.specs.Script.{body_part, body_parts, form_parts, instance_parts, item_parts, numbered_parts, parts_upto}
+use Rattle.smv_script.specs.Script.{body_part, body_parts, form_parts, instance_parts, item_parts, numbered_parts}
 use Rattle.smv_script_terms.specs.Operands.{several}
 use Rattle.smv_script_terms.specs.Chains.{AreChained}
 use Rattle.smv_script_terms.specs.Parts.{body_equation, body_number, body_number_of, body_owned, form_owned, item_number, item_owned, owned_by}
@@ -145,10 +145,6 @@ instance_done i flat c when done more all h e =
 pub where_ok : {A : Type 0} (P Q : Type 0) (r : Result A NoMemory) → (P → Q) → OnOk r P → OnOk r Q
 where_ok P Q (Ok a) f h = f h
 where_ok P Q (Err e) f h = h
-
-pub instances_go_on : (i : ℕ) (flat : PlainFlat) (c : Coding) (when : When) (done more : List Tree) → more ≡ done ++ instance_parts flat c when i → done ≡ parts_upto flat c when i → more ≡ parts_upto flat c when (i + 1)
-instances_go_on i flat c when done more h e =
-    h ∙ ap (λ ts. ts ++ instance_parts flat c when i) e ∙ ap (parts_upto flat c when) (let r : suc i ≡ i + 1 = omega arith in r)
 
 pub all_is : (ts : List Tree) → several op.And true (trees_of ts) ≡ all_term ts
 all_is [] = refl

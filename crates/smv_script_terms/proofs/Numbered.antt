@@ -2,7 +2,6 @@
 use Rattle.std.proofs.Common.{◌≡◌, ℕ, zero, suc, ◌+◌, ◌≤◌, ◌++◌, get_or, cond, if◌then◌else◌, Bool, true, false, List, [], ◌∷◌, drop, length, map, take, Option, Some, None, refl, sym, ap, ◌∙◌, arith}
 use Rattle.std.specs.Prelude.{slice_get}
 use mathlib.Core.Path.{fun_ext}
-use Rattle.std.proofs.lemmas.List.{drop_all}
 use Rattle.smv_items.specs.declared.items.FlatItem.{FlatItem}
 use Rattle.smv_items.specs.FlatItems.{PlainFlatItem}
 use Rattle.smv_items.specs.FlatItemView.{item_plain}
@@ -37,11 +36,6 @@ count_on g xs i x count next total h e k =
     let c : length (items_in g (map item_plain (drop i xs))) ≡ length (items_in g (item_plain x ∷ [])) + length (items_in g (map item_plain (drop (i + 1) xs))) =
     ap (λ ys. length (items_in g (map item_plain ys))) h ∙ counted g (item_plain x) (map item_plain (drop (i + 1) xs)) in
     omega (arith, e, c, k)
-
-pub count_end : (g : Group) (xs : List FlatItem) (i : ℕ) (count total : ℕ) → length xs ≤ i → count + length (items_in g (map item_plain (drop i xs))) ≡ total → count ≡ total
-count_end g xs i count total h k =
-    let c : length (items_in g (map item_plain (drop i xs))) ≡ 0 = ap (λ ys. length (items_in g (map item_plain ys))) (drop_all i xs h) in
-    omega (arith, c, k)
 
 kept_few : (b : Bool) (m : PlainFlatItem) (ms : List PlainFlatItem) (n : ℕ) → length ms ≤ n → length (cond b (m ∷ ms) ms) ≤ suc n
 kept_few true m ms n h = omega (arith, h)

@@ -1,6 +1,5 @@
 -- The loops over the parts of expressions.
-use Rattle.std.proofs.Common.{◌≡◌, ℕ, ◌+◌, ◌≤◌, ◌++◌, Bool, List, [], ◌∷◌, drop, length, map, option_map, is_some, Option, None, Vec, Box, Global, refl, sym, ap, ◌∙◌, rules}
-use Rattle.std.proofs.lemmas.List.{drop_all}
+use Rattle.std.proofs.Common.{◌≡◌, ℕ, ◌+◌, ◌++◌, Bool, List, [], ◌∷◌, drop, map, option_map, is_some, Option, None, Vec, Box, Global, refl, sym, ap, ◌∙◌, rules}
 use Rattle.smv_text.specs.declared.operators.Prefix.{Prefix}
 use Rattle.smv_text.specs.declared.operators.Function.{Function}
 use Rattle.smv_text.specs.declared.operators.Infix.{Infix}
@@ -73,9 +72,6 @@ case_alone q c k b = ap (λ (p : FlatTree × FlatTree). ((translation c p.0).ter
 abbrev pub part_list : Question → Coding → ℕ → List FlatExpr → List Tree
 part_list q c k xs = list_of (answers q c k (flat_trees_of (map plain_flat xs)))
 
-pub part_elements : (q : Question) (c : Coding) (k : ℕ) → IsOfElements (part_list q c k)
-part_elements q c k x xs = refl
-
 -- ---- a chain that is read from the left
 
 folded_link : (c : Coding) (k : ℕ) (x : Option Subject) (m : ℕ) (a : Tree) (o : Infix) (e : FlatTree) (ls : FlatLinks) (n : ℕ) (t b : Tree) → n ≡ front_width o m (word_width e)
@@ -92,9 +88,6 @@ folded_on c k xs i l x m a n w t b total named d v h g s j r =
     folded_link c k x m a l.op (plain_flat l.operand) (flat_links_of (map plain_flat_link (drop (i + 1) xs))) n t b (h ∙ ap (front_width l.op m) v) g
     (j ∙ ap (λ z. joined_term l.op z (is_word (plain_flat l.operand)) m (amount_of (plain_flat l.operand)) a t) s)
     ∙ ap (folded c k x m a) (sym (links_at (drop i xs) (drop (i + 1) xs) l d)) ∙ r
-
-pub folded_end : (c : Coding) (k : ℕ) (xs : List FlatLink) (i : ℕ) (x : Option Subject) (m : ℕ) (a total : Tree) → length xs ≤ i → folded c k x m a (flat_links_of (map plain_flat_link (drop i xs))) ≡ total → a ≡ total
-folded_end c k xs i x m a total h r = ap (λ ys. folded c k x m a (flat_links_of (map plain_flat_link ys))) (sym (drop_all i xs h)) ∙ r
 
 -- ---- cases
 

@@ -69,10 +69,6 @@ walk_goes_on os ns fs xs count i p q x done more total e c k l h m n w =
     next_is : (ns fs xs : List ℕ) (count i p : ℕ) → i < count → p < length ns → AreChained ns count 0 fs xs → get_or ns p 0 ≡ i → get_or xs p 0 ≡ place_from (p + 1) i ns
     next_is ns fs xs count i p k l c w = c.next p (omega arith) l (let r : get_or ns p 0 < count = omega (arith, w, k) in r) ∙ ap (λ j. place_from (p + 1) j ns) w
 
--- the next place is farther on
-pub walk_gets_nearer : (ns fs xs : List ℕ) (count p q : ℕ) → p < length ns → get_or ns p 0 < count → AreChained ns count 0 fs xs → q ≡ get_or xs p 0 → p < q
-walk_gets_nearer ns fs xs count p q l k c h = let r : get_or xs p 0 ≡ place_from (p + 1) (get_or ns p 0) ns = c.next p (omega arith) l k in omega (arith, r, h)
-
 pub walk_ends : (os : List (ℕ × List Tree)) (ns : List ℕ) (i p : ℕ) (done total : List Tree) → map (λ x. x.0) os ≡ ns → length ns ≤ p → Walks ns i os done total p → done ≡ total
 walk_ends os ns i p done total e h w =
     let r : length os ≡ length ns = sym (length-map os (λ x. x.0)) ∙ ap length e in

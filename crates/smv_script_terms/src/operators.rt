@@ -7,7 +7,7 @@ ghost use Rattle.smv_script.specs.Operators.{not_term, infix_term, repeated, sig
 ghost use Rattle.smv_script_terms.specs.Questions.{answered_value, subject_tree};
 ghost use Rattle.smv_script_terms.specs.Operands.{several};
 ghost use Rattle.smv_text.specs.declared.operators.Infix.TheVariants.{Implies, Iff, Xnor};
-ghost use Rattle.moxi_terms.specs.Applications.{one, two, three, equal_term, choice_term};
+ghost use Rattle.moxi_terms.specs.Applications.{one, two, equal_term, choice_term};
 
 use crate::coding::{Question, Subject};
 use crate::constants::subject_term;

@@ -1,7 +1,7 @@
 // The ways to read a chain.
 ghost use Rattle.std.specs.Prelude.{◌≡◌, map};
 ghost use Rattle.smv_flat.specs.FlatTree.{flat_links_of, flat_are_implies};
-ghost use Rattle.smv_flat.specs.FlatView.{plain_flat, plain_flat_link};
+ghost use Rattle.smv_flat.specs.FlatView.{plain_flat_link};
 ghost use Rattle.smv_meaning.specs.Expressions.{is_implies};
 ghost use Rattle.smv_meaning.specs.Types.{is_union};
 ghost use Rattle.smv_script.specs.Operators.{joins_with};

@@ -1,6 +1,6 @@
 // The terms of expressions.
 ghost use Rattle.std.specs.Prelude.{◌≡◌, ◌<◌, ◌+◌, ◌^◌, suc, max, IfOk, map};
-ghost use Rattle.moxi_terms.specs.Tree.{tree, trees_of};
+ghost use Rattle.moxi_terms.specs.Tree.{trees_of};
 ghost use Rattle.moxi_terms.specs.View.{plain};
 ghost use Rattle.smv_flat.specs.FlatTree.{flat_links_of, flat_branches_of, flat_trees_of};
 ghost use Rattle.smv_flat.specs.FlatView.{plain_flat, plain_flat_link, plain_flat_branch};
@@ -9,7 +9,7 @@ ghost use Rattle.smv_script.specs.Ranges.{branches_excess, call_excess, excess, 
 ghost use Rattle.smv_script.specs.Terms.{arguments_of, is_word, taken_translation, translation, word_width};
 ghost use Rattle.smv_script_terms.specs.Depths.{depth, links_depth, branches_depth, trees_depth};
 ghost use Rattle.smv_script_terms.specs.Questions.{answered, codes_of};
-ghost use Rattle.smv_script_terms.specs.Operands.{answers, behind_term, case_plain, cases_of, chain_answers, link_answers, operand_plain, operands_of};
+ghost use Rattle.smv_script_terms.specs.Operands.{answers, behind_term, case_plain, cases_of, chain_answers, operand_plain, operands_of};
 ghost use Rattle.smv_script_terms.specs.Readings.{called_term, chain_answered, folded_answer, gathered_answer, named_subject, ranged_answer, united_answer};
 
 use crate::coding::{Coding, Question, Subject};

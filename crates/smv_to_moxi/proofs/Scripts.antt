@@ -92,10 +92,6 @@ query_off xs i f all total h e k = ap (λ es. all ++ queries_from (length all) e
 
 -- ---- the parts of a script
 
-pub script_same : (l m : List ℕ) (o p : ScopeState) (s t : PlainSystem) (c d : PlainCheck) → l ≡ m → o ≡ p → s ≡ t → c ≡ d → script_with l o s c ≡ script_with m p t d
-script_same l m o p s t c d a b e f =
-    ap (λ x. script_with x o s c) a ∙ ap (λ x. script_with m x s c) b ∙ ap (λ x. script_with m p x c) e ∙ ap (λ x. script_with m p t x) f
-
 abbrev pub coding_with : ℕ → (ℕ → ℕ) → Coding
 coding_with width place = record { width = width; place = place }
 

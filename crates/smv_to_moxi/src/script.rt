@@ -10,7 +10,7 @@ ghost use Rattle.smv_flat.specs.FlatParts.{parts_plain};
 ghost use Rattle.smv_flat.specs.FlatView.{plain_flat};
 ghost use Rattle.smv_flat_laws.specs.FlatTruth.{forms_invariants};
 ghost use Rattle.smv_script.specs.Ranges.{excess, forms_excess};
-ghost use Rattle.smv_script.specs.Script.{coding_of, place_of_item, queries_from, reachables_from, symbol_sort};
+ghost use Rattle.smv_script.specs.Script.{coding_of, place_of_item, queries_from, reachables_from};
 ghost use Rattle.smv_script_terms.specs.Depths.{depth, forms_depth};
 ghost use Rattle.smv_script_terms.specs.Questions.{codes_of, place_at};
 ghost use Rattle.smv_script_terms.specs.FlatChains.{AreFlatChains};

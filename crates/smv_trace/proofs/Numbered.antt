@@ -65,9 +65,6 @@ kept_with items known cs ns new end kept e f =
 pub same_ends : (items : List PlainFlatItem) (known : List Bool) (cs : List Change) (ns new : List ℕ) → IsKept items known cs ns → new ≡ ns → IsKept items known cs new
 same_ends items known cs ns new kept e = subst (λ (ks : List ℕ). IsKept items known cs ks) (sym e) kept
 
-pub same_changes : (items : List PlainFlatItem) (known : List Bool) (cs new : List Change) (ns : List ℕ) → IsKept items known cs ns → new ≡ cs → IsKept items known new ns
-same_changes items known cs new ns kept e = subst (λ (xs : List Change). IsKept items known xs ns) (sym e) kept
-
 pub kept_more : (items : List PlainFlatItem) (known : List Bool) (cs new : List Change) (ns : List ℕ) (c : Change) → IsKept items known cs ns → new ≡ cs ++ c ∷ [] → IsKept items (set known c.item true) new ns
 kept_more items known cs new ns c kept e = subst (λ (xs : List Change). IsKept items (set known c.item true) xs ns) (sym e) (kept_value items known cs ns c kept)
 

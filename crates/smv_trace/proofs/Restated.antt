@@ -141,10 +141,3 @@ state_apart kind.Frozen h = refl
 state_apart kind.Input h = absurd (let e : false ≡ true = h in cc)
 state_apart kind.Define h = refl
 state_apart kind.Actual h = refl
-
-pub input_apart : (k : ItemKind) → picks Input k ≡ true → picks State k ≡ false
-input_apart kind.State h = absurd (let e : false ≡ true = h in cc)
-input_apart kind.Frozen h = absurd (let e : false ≡ true = h in cc)
-input_apart kind.Input h = refl
-input_apart kind.Define h = refl
-input_apart kind.Actual h = refl

@@ -308,10 +308,6 @@ pub stated_from : (d : Declarations) (text : List ℕ) (r : Result Run End) → 
 stated_from d text (Ok run) h = (trace_good d text run h).0
 stated_from d text (Err e) h = tt
 
-pub within_from : (d : Declarations) (text : List ℕ) (r : Result Run End) → Answers (trace_of d text) r → IfOk r (λ run. is_within d (length run.states) ≡ true)
-within_from d text (Ok run) h = (trace_good d text run h).1
-within_from d text (Err e) h = tt
-
 -- the same of a run by the numbers of the items
 pub numbered_stated : (d : Declarations) (text : List ℕ) (r : Result NumberedRun End) → StatesRun d.items (trace_of d text) r → IfOk r (λ run. IsStatedRun d (run_in d.items run))
 numbered_stated d text (Ok run) h = (trace_good d text (run_in d.items run) h).0

@@ -1,5 +1,5 @@
 // The declarations against which a trace is read, with a lookup table of their names.
-ghost use Rattle.std.specs.Prelude.{◌≡◌, ◌<◌, ◌++◌, [], true, Some, map, length, is_some, IfOk, IfSome, slice_get};
+ghost use Rattle.std.specs.Prelude.{◌≡◌, ◌<◌, [], true, Some, map, length, is_some, IfOk, IfSome, slice_get};
 ghost use Rattle.name_maps.specs.Names.{are_fresh, place_of};
 ghost use Rattle.smv_items.specs.FlatItemView.{item_plain};
 ghost use Rattle.smv_trace.specs.Reading.{is_variable, variables_of};

@@ -1,5 +1,5 @@
 -- Lines with the blanks before them.
-use Rattle.std.proofs.Common.{◌≡◌, ℕ, Bool, true, false, List, [], ◌∷◌, ◌++◌, refl, sym, ap, ◌∙◌}
+use Rattle.std.proofs.Common.{◌≡◌, ℕ, Bool, true, false, List, [], ◌∷◌, ◌++◌, refl, ap, ◌∙◌}
 use Rattle.std.specs.Prelude.{codes}
 use Rattle.std.specs.List.{flat_map}
 use Rattle.std.proofs.lemmas.List.{append_assoc}
@@ -18,13 +18,3 @@ lines_are (g ∷ gs) =
     let value = value_text g.value in
     ap (λ (t : List ℕ). codes "    " ++ t)
     (append_assoc g.name (codes " = " ++ (value ++ 10 ∷ [])) rest ∙ ap (λ (t : List ℕ). g.name ++ (codes " = " ++ t)) (append_assoc value (10 ∷ []) rest))
-
--- a line, and the blanks before the next one
-pub line_put : (out : List ℕ) (g : Given) (gs : List Given) (b : Bool) → b ≡ follows gs → (out ++ (g.name ++ (codes " = " ++ (value_text g.value ++ 10 ∷ margin b)))) ++ unmargined gs ≡ out ++ unmargined (g ∷ gs)
-line_put out g gs b e =
-    let value = value_text g.value in
-    let m = margin b in
-    append_assoc out (g.name ++ (codes " = " ++ (value ++ 10 ∷ m))) (unmargined gs)
-    ∙ ap (λ (t : List ℕ). out ++ t) (append_assoc g.name (codes " = " ++ (value ++ 10 ∷ m)) (unmargined gs)
-    ∙ ap (λ (t : List ℕ). g.name ++ (codes " = " ++ t)) (append_assoc value (10 ∷ m) (unmargined gs)
-    ∙ ap (λ (t : List ℕ). value ++ 10 ∷ t) (ap (λ c. margin c ++ unmargined gs) e ∙ sym (lines_are gs))))

@@ -1,8 +1,7 @@
 // Operands that must be written numbers: divisors, shift amounts and widths.
-ghost use Rattle.std.specs.Prelude.{◌≡◌, map};
-ghost use Rattle.smv_text.specs.Tree.{trees_of};
+ghost use Rattle.std.specs.Prelude.{◌≡◌};
 ghost use Rattle.smv_text.specs.View.{plain};
-ghost use Rattle.smv_meaning.specs.Types.{divisor_of, is_nonzero, is_divisor, number_of};
+ghost use Rattle.smv_meaning.specs.Types.{divisor_of, is_divisor, number_of};
 
 use smv_text::{Expr, Prefix, Shape};
 

@@ -1,5 +1,5 @@
 // Checks and types of function calls.
-ghost use Rattle.std.specs.Prelude.{◌≡◌, ◌≤◌, ◌-◌, ◌^◌, true, pos, [], map, Some, None, is_some, nat_lt, option_map, MatchResult};
+ghost use Rattle.std.specs.Prelude.{◌≡◌, ◌-◌, ◌^◌, true, pos, [], map, Some, None, is_some, nat_lt, option_map, MatchResult};
 ghost use Rattle.smv_text.specs.Tree.{trees_of};
 ghost use Rattle.smv_text.specs.View.{plain};
 ghost use Rattle.smv_text.specs.declared.operators.Function.TheVariants as OfFunction;

@@ -2,7 +2,7 @@
 ghost use Rattle.std.specs.Prelude.{◌≡◌, false, map, None, Some, option_map};
 ghost use Rattle.smv_text.specs.Tree.{links_of};
 ghost use Rattle.smv_text.specs.View.{plain, plain_link};
-ghost use Rattle.smv_meaning.specs.Types.{infix_fits, is_shift_amount, divides, shifts, joins, is_union, logical_fits, number_fits};
+ghost use Rattle.smv_meaning.specs.Types.{infix_fits, divides, shifts, is_union, logical_fits, number_fits};
 ghost use Rattle.smv_meaning.specs.Checks.{across, behind, are_unions};
 ghost use Rattle.smv_meaning.specs.Expressions.{is_implies, are_implies, is_from_right};
 ghost use Rattle.smv_intervals.specs.View.{seen};

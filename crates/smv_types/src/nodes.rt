@@ -1,5 +1,5 @@
 // Checks and types of single nodes, given the types of their operands.
-ghost use Rattle.std.specs.Prelude.{◌≡◌, MatchResult, Some, option_map, pos};
+ghost use Rattle.std.specs.Prelude.{◌≡◌, Some, option_map};
 ghost use Rattle.smv_meaning.specs.Types.{prefix_fits, prefix_type};
 ghost use Rattle.smv_intervals.specs.View.{seen};
 ghost use Rattle.smv_types.specs.View.{named_seen, permissions_seen};

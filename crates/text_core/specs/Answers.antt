@@ -1,4 +1,4 @@
--- What a reader answers: a result, a refusal, or want of memory.
+-- What a reader answers: a result, a refusal, or out of memory.
 use Rattle.std.specs.Prelude.{Result, Ok, Err, ℕ, ◌≡◌}
 use Rattle.text_core.specs.declared.place.Refusal.{Refusal}
 use Rattle.text_core.specs.declared.place.Place.{Place}
@@ -13,7 +13,7 @@ go_on (Err refusal) f = Err refusal
 abbrev pub refused : {A : Type 0} → ℕ → Place → Result A Refusal
 refused n at = Err (record { kind = Y n; place = at })
 
--- this result or this refusal, or want of memory
+-- this result or this refusal, or out of memory
 abbrev pub Answers : {A : Type 0} → Result A Refusal → Result A End → Type 0
 Answers wanted (Ok x) = wanted ≡ Ok x
 Answers wanted (Err (Bad refusal)) = wanted ≡ Err refusal

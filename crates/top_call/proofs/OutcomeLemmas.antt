@@ -284,21 +284,12 @@ no_want (SecondRefused r) e = absurd (cc)
 no_want (No step clause) e = absurd (cc)
 no_want (Done output) e = absurd (cc)
 
--- an answer that is there isn't for want of memory
+-- an answer that is there isn't out of memory
 pub run_memory : {P : Type 0} (a : Answer) (s : Status) → Ends s a → s ≡ status.NoMemory → P
 run_memory a s ends is =
     elim ends [
       | inl e ↦ absurd (no_want a (sym e ∙ is))
       | inr w ↦ absurd (let clash : status.WriteFault ≡ status.NoMemory = sym w ∙ is in cc)
-    ]
-
--- there was no memory
-pub memory_noted : (files : Option Files) (command : Option Command) (faulted : Type 0) (s : Status) (before now : Option (List ℕ)) (count later : ℕ) → Noted before now count later no_memory_line status.NoMemory s → s ≢ status.WriteFault
-    → (line : List ℕ) × IsLineOf files command faulted s line × (now ≡ grown before line)
-memory_noted files command faulted s before now count later n w =
-    elim n [
-      | inl whole ↦ (no_memory_line, subst (λ t. IsLineOf files command faulted t no_memory_line) (sym whole.0) refl, whole.1)
-      | inr cut ↦ absurd (w cut.0)
     ]
 
 pub memory_fault_noted : {T : Type 0} (files : Option Files) (command : Option Command) (faulted out : Type 0) (s : Status) (taken : T) (before now : Option (List ℕ)) (count later : ℕ) → Noted before now count later no_memory_line status.NoMemory s → s ≡ status.WriteFault

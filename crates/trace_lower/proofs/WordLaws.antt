@@ -1,16 +1,12 @@
 -- Words of integers and of symbols.
-use Rattle.std.proofs.Common.{◌≡◌, ℕ, zero, suc, ◌^◌, ◌<◌, ◌≤◌, ℤ, pos, negsuc, List, [], ◌∷◌, ◌++◌, length, Option, Some, None, refl, arith}
-use Rattle.std.specs.Prelude.{codes}
+use Rattle.std.proofs.Common.{◌≡◌, ℕ, zero, suc, ◌^◌, ◌<◌, ◌≤◌, ℤ, pos, negsuc, List, [], length, Option, Some, None, refl, arith}
 use Rattle.std.proofs.Math.Nat.{mod-lt}
-use Rattle.std.proofs.lemmas.List.{length-map}
 use Rattle.std.proofs.lemmas.List.Quantifiers.{position-Some}
 use Rattle.std.proofs.lemmas.Nat.{pow_pos}
 use Rattle.std.specs.Str.{bytes_eq}
 use Rattle.word_core.specs.Words.{IsWord}
 use Rattle.name_maps.specs.Names.{place_of}
 use Rattle.smv_script.specs.Codes.{integer_bits, number_or_zero}
-use Rattle.smv_script.specs.Script.{symbol_sort}
-use Rattle.moxi_terms.specs.Names.{constant_count}
 use Rattle.moxi_lines.specs.Codes.{choice_width}
 use Rattle.moxi_lower.proofs.Steps.{choice_word, few_counts}
 
@@ -24,11 +20,6 @@ pub integer_is_word : (width : ℕ) (z : ℤ) → 1 ≤ width → width ≤ 64 �
 integer_is_word width z some most = (some, omega (arith, most), integer_low width z)
 
 -- ---- symbols
-
--- all symbols are constants of the first enumeration
-pub symbol_count : (symbols : List (List ℕ)) → constant_count (symbol_sort symbols) 0 ≡ length symbols
-symbol_count [] = refl
-symbol_count (s ∷ ss) = length-map (s ∷ ss) (λ x. codes "c." ++ x)
 
 first_word : (count : ℕ) → count < 2 ^ 64 → IsWord (record { width = choice_width count; bits = 0 })
 first_word zero few = let one : choice_width 0 ≡ 1 = refl in (omega (arith, one), omega (arith, one), pow_pos (choice_width 0))

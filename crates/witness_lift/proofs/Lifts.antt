@@ -1,6 +1,6 @@
 -- What is known of a model's script and of the trace to which a witness is lifted.
 use Rattle.std.proofs.Common.{◌≡◌, ℕ, List, length, None, Result, Ok, Err, refl, sym, ap, ◌∙◌, subst}
-use Rattle.std.specs.Prelude.{IfErr, IfOk, IsErrAnd}
+use Rattle.std.specs.Prelude.{IfOk}
 use Rattle.std.specs.List.{AllByRecursion}
 use Rattle.std.proofs.Math.Logic.{∥∥₁_map}
 use Rattle.std.proofs.lemmas.List.{append-nil}
@@ -27,10 +27,8 @@ use Rattle.moxi_flat.specs.Limits.{flat_refusal}
 use Rattle.moxi_instantiate.specs.Instances.{IsSingle, single_script}
 use Rattle.moxi_lines.specs.Lines.{lines_of}
 use Rattle.moxi_layout.specs.LayoutLaws.{IsLaidOut}
-use Rattle.moxi_lift.specs.Ends.{IsLiftEnd}
 use Rattle.moxi_lift.specs.Laws.{AreOfSystem, IsLiftedTrace}
 use Rattle.moxi_lift.specs.Lifted.{lifted}
-use Rattle.moxi_lift.specs.declared.chain_lift.LiftEnd.{LiftEnd}
 use Rattle.witness_lift.specs.LineLaws.{ModelLinesAreLaidOut, ModelsHaveFlatSystems}
 use Rattle.witness_lift.specs.Lifting.{AreOfFlat, lines_in, system_in}
 
@@ -112,10 +110,3 @@ is_trace f w envs l = record {
   some = l.some;
   steps = subst (λ (vs : List Variable). AllByRecursion (Fit (symbol_sort f.symbols) (sorts_of vs)) envs) (own_variables f) l.fits;
 }
-
-refused_so : {T : Type 0} (P : LiftEnd → Type 0) (result : Result T LiftEnd) (why : LiftEnd) → IsErrAnd result (λ e. e ≡ why) → P why → IfErr result P
-refused_so P (Ok x) why h p = tt
-refused_so P (Err e) why h p = subst P (sym h) p
-
-pub refused_answered : {T : Type 0} (f : FlatModel) (w : Witness) (result : Result T LiftEnd) (why : LiftEnd) → IsErrAnd result (λ e. e ≡ why) → IsLiftEnd (lines_in f) w why → IfErr result (IsLiftEnd (lines_in f) w)
-refused_answered f w result why h p = refused_so (IsLiftEnd (lines_in f) w) result why h p

@@ -1,8 +1,6 @@
 -- The binary digits of a number spell it.
-use Rattle.std.proofs.Common.{◌≡◌, ℕ, zero, suc, ◌%◌, ◌<◌, ◌⊎◌, refl, arith, inl, inr, ◌+◌, sym, subst, ◌/◌, length, ◌*◌, cond, ltb, Option, Some, None, [], Bool, true, false, List, ◌∷◌, ◌++◌, ap, ◌∙◌, ◌^◌}
+use Rattle.std.proofs.Common.{◌≡◌, ℕ, zero, suc, ◌%◌, ◌<◌, ◌⊎◌, refl, arith, inl, inr, ◌+◌, sym, subst, ◌/◌, ◌*◌, cond, ltb, Option, Some, None, [], Bool, true, false, List, ◌∷◌, ◌++◌, ap, ◌∙◌, ◌^◌}
 use Rattle.word_core.specs.Digits.{digit_number, number_after}
-use Rattle.std.proofs.lemmas.List.{length_push}
-use Rattle.text_core.specs.Binary.{binary_digits}
 use Rattle.std.specs.Prelude.{option_and_then}
 use Rattle.std.proofs.lemmas.Bool.{cond-true}
 
@@ -19,11 +17,6 @@ digit_fact P n a b = elim (bit_cases n) [ inl z ↦ subst (λ d. P (48 + d)) (sy
 
 pub digit_is : (n : ℕ) → digit_number (48 + n % 2) ≡ n % 2
 digit_is n = elim (bit_cases n) [ inl z ↦ subst (λ d. digit_number (48 + d) ≡ d) (sym z) refl | inr o ↦ subst (λ d. digit_number (48 + d) ≡ d) (sym o) refl ]
-
-pub digits_long : (w n : ℕ) → length (binary_digits w n) ≡ w
-unfolding binary_digits
-digits_long zero n = refl
-digits_long (suc w) n = let e = length_push (binary_digits w (n / 2)) (48 + n % 2) in omega (arith, e, digits_long w (n / 2))
 
 -- one more digit behind those before
 pub one_behind : (d : ℕ) → ℕ → Option ℕ
@@ -50,11 +43,13 @@ behind_is n m =
 pub half_small : (w n : ℕ) → n < 2 ^ suc w → n / 2 < 2 ^ w
 half_small w n h = omega (arith, h)
 
-pub number_back : (w n : ℕ) → n < 2 ^ w → number_after 2 0 (binary_digits w n) ≡ Some n
-unfolding binary_digits
-number_back zero n h = let z : 0 ≡ n = omega (arith, h) in ap Some z
-number_back (suc w) n h =
+-- for any digits that are written from the highest to the lowest
+pub number_back : (digits : ℕ → ℕ → List ℕ) → ((n : ℕ) → digits zero n ≡ []) → ((w n : ℕ) → digits (suc w) n ≡ digits w (n / 2) ++ (48 + n % 2) ∷ [])
+    → (w n : ℕ) → n < 2 ^ w → number_after 2 0 (digits w n) ≡ Some n
+number_back digits none more zero n h = let z : 0 ≡ n = omega (arith, h) in ap (number_after 2 0) (none n) ∙ ap Some z
+number_back digits none more (suc w) n h =
     let whole : n / 2 * 2 + n % 2 ≡ n = omega arith in
-    number_push (binary_digits w (n / 2)) (48 + n % 2) 0
-    ∙ ap (option_and_then (one_behind (48 + n % 2))) (number_back w (n / 2) (half_small w n h))
+    ap (number_after 2 0) (more w n)
+    ∙ number_push (digits w (n / 2)) (48 + n % 2) 0
+    ∙ ap (option_and_then (one_behind (48 + n % 2))) (number_back digits none more w (n / 2) (half_small w n h))
     ∙ behind_is n (n / 2) ∙ ap Some whole

@@ -1,6 +1,6 @@
 // Words from digits.
-ghost use Rattle.std.specs.Prelude.{◌≡◌, ◌⊎◌, ◌<◌, ◌≤◌, ◌+◌, ◌*◌, ◌^◌, Some, None, option_and_then, length};
-ghost use Rattle.word_core.specs.Digits.{below, digit_number, fitted, number_after, read_word};
+ghost use Rattle.std.specs.Prelude.{◌≡◌, ◌⊎◌, ◌<◌, ◌≤◌, ◌+◌, ◌*◌, ◌^◌, Some, None, option_and_then};
+ghost use Rattle.word_core.specs.Digits.{below, digit_number, number_after, read_word};
 
 use crate::numbers::ones;
 use crate::word::{WIDEST, Word};

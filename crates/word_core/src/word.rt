@@ -1,5 +1,5 @@
 // A word: a width, and a number below two to that width.
-ghost use Rattle.std.specs.Prelude.{◌≡◌, ◌<◌, ◌≤◌, ◌+◌, ◌*◌, ◌^◌, ◌/◌, ◌%◌, ◌↔◌, IsTrue, IsSome, IfSome};
+ghost use Rattle.std.specs.Prelude.{◌≡◌, ◌<◌, ◌+◌, ◌*◌, ◌^◌, ◌/◌, ◌%◌, ◌↔◌, IsTrue, IsSome, IfSome};
 ghost use Rattle.word_core.specs.Words.{BitVector, IsWord};
 
 use crate::numbers::ones;

@@ -14,7 +14,7 @@ pub held : {T P : Type 0} (result : Result T Stop) → P → IfErr result (OnNoM
 held (Ok x) p = tt
 held (Err stop) p = always stop p
 
--- what isn't for want of memory
+-- what isn't out of memory
 pub never : {T : Type 0} (P : Type 0) (result : Result T Stop) → IfErr result (OnNoMemory ⊥) → IfErr result (OnNoMemory P)
 never P (Ok x) h = tt
 never P (Err (Answered answer)) h = tt
