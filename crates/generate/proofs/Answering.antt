@@ -18,7 +18,7 @@ use Rattle.witness_lift.specs.Lifting.{lines_in}
 use Rattle.witness_lift.specs.LineLaws.{model_system}
 use Rattle.command_core.specs.declared.answer.Answer.{Answer}
 use Rattle.command_core.specs.declared.answer.Answer.TheVariants as answer
-use Rattle.smv_commands.specs.Models.{IsCheckRefusal, IsFormIn}
+use Rattle.smv_models.specs.Models.{IsCheckRefusal, IsFormIn}
 use Rattle.generate.specs.Made.{lines_text, made_model, made_witness}
 use Rattle.generate.specs.Generating.{IsGenerated, IsSummary, OfLines, OfModels, OfWitness, summary_lines, summary_text, verdict_for}
 use Rattle.generate.proofs.Forms.{lines_are}

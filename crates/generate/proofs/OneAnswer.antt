@@ -14,9 +14,9 @@ use Rattle.command_core.specs.declared.answer.Answer.{Answer}
 use Rattle.command_core.specs.declared.answer.Answer.TheVariants.{Usage, Refused, SecondRefused, No, Done}
 use Rattle.command_core.specs.declared.answer.Output.TheVariants.{Text}
 use Rattle.command_core.specs.Reading.{SaysRead}
-use Rattle.smv_commands.specs.Models.{IsAcceptedModel}
-use Rattle.smv_commands.proofs.Checked.{not_checked, one_check_refusal}
-use Rattle.smv_commands.proofs.Sources.{same_model}
+use Rattle.smv_models.specs.Models.{IsAcceptedModel}
+use Rattle.smv_models.proofs.Checked.{not_checked, one_check_refusal}
+use Rattle.smv_models.proofs.Sources.{same_model}
 use Rattle.text_core.specs.Places.{start, after}
 use Rattle.generate.specs.Made.{made_model, made_witness}
 use Rattle.generate.specs.Generating.{IsGenerated, OfLines, OfTexts, OfWitness}

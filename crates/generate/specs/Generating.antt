@@ -23,7 +23,7 @@ use Rattle.moxi_lift.specs.Lifted.{lifted}
 use Rattle.command_core.specs.declared.answer.Answer.{Answer}
 use Rattle.command_core.specs.declared.answer.Answer.TheVariants.{SecondRefused, No, Done}
 use Rattle.command_core.specs.declared.answer.Output.TheVariants.{Text}
-use Rattle.smv_commands.specs.Models.{IsAcceptedModel, IsRefusal}
+use Rattle.smv_models.specs.Models.{IsAcceptedModel, IsRefusal}
 use Rattle.generate.specs.Made.{lines_text, made_model, made_witness}
 use Rattle.moxi_scripts.specs.Behaviour.{trace_of}
 

@@ -1,6 +1,6 @@
 // The generated model and the generated witness, taken through all steps.
 ghost use Rattle.std.specs.Prelude.{◌≡◌, ◌≤◌, IfOk, IfErr};
-ghost use Rattle.smv_commands.specs.Models.{IsFormIn, IsModelEnd};
+ghost use Rattle.smv_models.specs.Models.{IsFormIn, IsModelEnd};
 ghost use Rattle.generate.specs.Made.{made_model};
 ghost use Rattle.command_core.specs.declared.answer.Stop.TheVariants as Stop;
 ghost use Rattle.generate.specs.Generating.{IsGenerated};
@@ -8,7 +8,7 @@ ghost use Rattle.generate.specs.Generating.{IsGenerated};
 use crate::chain::chain_answer;
 use crate::model::made_model;
 use command_core::{Answer, Stop};
-use smv_commands::chain_in;
+use smv_models::chain_in;
 use std::alloc::Global;
 use text_core::End;
 use witness_lift::SmvChain;

@@ -10,8 +10,8 @@ use Rattle.smv_flatten.specs.FlatModel.{FlatModel, flat_plain}
 use Rattle.smv_script.specs.Script.{script_of}
 use Rattle.moxi_term_print.specs.Shown.{lines_text}
 use Rattle.moxi_script_print.specs.Printing.{shown_script}
-use Rattle.smv_commands.specs.Limits.{most_smv_bytes}
-use Rattle.smv_commands.specs.Models.{IsCheckRefusal, IsFormIn, smv_too_long}
+use Rattle.smv_models.specs.Limits.{most_smv_bytes}
+use Rattle.smv_models.specs.Models.{IsCheckRefusal, IsFormIn, smv_too_long}
 use Rattle.smv_commands.specs.Scripts.{IsScript, IsScriptText, IsCorrectOutput, OfBytes, ScriptsAreCorrect, WritesScript}
 use Rattle.smv_commands.proofs.ScriptStands.{made_text}
 

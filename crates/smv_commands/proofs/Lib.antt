@@ -1,6 +1,3 @@
-pub mod Sources
-pub mod Checked
-pub mod Forms
 pub mod Given
 pub mod ScriptStands
 pub mod LinesGiven

@@ -13,10 +13,10 @@ use Rattle.command_core.specs.Answers.{status_of, text_of}
 use Rattle.command_core.specs.Reading.{file_within}
 use Rattle.command_core.specs.laws.Files.{done_from, goes_once, on_read}
 use Rattle.command_core.specs.laws.Texts.{done_text, one_answer}
-use Rattle.smv_commands.specs.Limits.{most_smv_bytes}
-use Rattle.smv_commands.specs.Models.{IsCheckRefusal, IsFormIn, smv_too_long}
-use Rattle.smv_commands.proofs.Checked.{not_checked, one_check_refusal}
-use Rattle.smv_commands.proofs.Sources.{same_model}
+use Rattle.smv_models.specs.Limits.{most_smv_bytes}
+use Rattle.smv_models.specs.Models.{IsCheckRefusal, IsFormIn, smv_too_long}
+use Rattle.smv_models.proofs.Checked.{not_checked, one_check_refusal}
+use Rattle.smv_models.proofs.Sources.{same_model}
 use Rattle.smv_commands.specs.Translation.{Accepts, IsBtorText, IsCorrectOutput, IsTranslation, OfBytes, TranslatesTo, TranslationsAreCorrect, btor_text}
 
 one_btor_text : (bytes x y : List ℕ) → IsBtorText bytes x → IsBtorText bytes y → x ≡ y

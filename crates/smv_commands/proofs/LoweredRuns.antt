@@ -41,11 +41,12 @@ use Rattle.command_core.specs.declared.status.Status.TheVariants as status
 use Rattle.command_core.specs.Answers.{status_of, text_of}
 use Rattle.command_core.specs.Reading.{ContinuesWith, within_limit}
 use Rattle.command_core.specs.laws.Files.{done_from, on_read}
-use Rattle.smv_commands.specs.Limits.{most_smv_bytes, most_trace_bytes}
+use Rattle.smv_models.specs.Limits.{most_smv_bytes}
+use Rattle.smv_commands.specs.Limits.{most_trace_bytes}
 use Rattle.smv_commands.specs.Lowering.{IsLoweredTrace, IsLowering, RunsAreLowered, StatesRun, lowered_answer, lowered_text}
-use Rattle.smv_commands.specs.Models.{IsAcceptedModel, smv_too_long}
+use Rattle.smv_models.specs.Models.{IsAcceptedModel, smv_too_long}
 use Rattle.smv_commands.specs.Traces.{IsRunAnswer, OfBytes, OfText, of_trace, trace_too_long}
-use Rattle.smv_commands.proofs.Forms.{read_of}
+use Rattle.smv_models.proofs.Forms.{read_of}
 use Rattle.smv_commands.proofs.LiftedRuns.{own_lines}
 use Rattle.smv_commands.proofs.TraceAnswers.{one_answer_to_trace}
 use Rattle.text_core.specs.Answers.{refused}

@@ -21,10 +21,10 @@ use Rattle.smv_commands.specs.Scripts.{IsScript, IsScriptText, OfBytes, Represen
 use Rattle.text_core.specs.Outside.{Files}
 use Rattle.command_core.specs.Reading.{file_within}
 use Rattle.command_core.specs.laws.Files.{goes_once}
-use Rattle.smv_commands.specs.Limits.{most_smv_bytes}
-use Rattle.smv_commands.specs.Models.{IsCheckRefusal, smv_too_long}
-use Rattle.smv_commands.proofs.Checked.{not_checked, one_check_refusal}
-use Rattle.smv_commands.proofs.Sources.{same_model}
+use Rattle.smv_models.specs.Limits.{most_smv_bytes}
+use Rattle.smv_models.specs.Models.{IsCheckRefusal, smv_too_long}
+use Rattle.smv_models.proofs.Checked.{not_checked, one_check_refusal}
+use Rattle.smv_models.proofs.Sources.{same_model}
 use Rattle.btor_commands.proofs.Imported.{met_here, met_there}
 use Rattle.moxi_scripts.specs.Script.{query_of}
 

@@ -36,10 +36,10 @@ use Rattle.command_core.specs.laws.Files.{done_from, goes_once, on_read}
 use Rattle.command_core.specs.laws.Given.{also_ok, also_stop, of_each}
 use Rattle.btor_commands.specs.Judgement.{witness_too_long}
 use Rattle.btor_commands.specs.Limits.{most_witness_bytes}
-use Rattle.smv_commands.specs.Limits.{most_smv_bytes}
-use Rattle.smv_commands.specs.Models.{IsCheckRefusal, IsFormIn, smv_too_long}
-use Rattle.smv_commands.proofs.Checked.{not_checked, one_check_refusal}
-use Rattle.smv_commands.proofs.Sources.{same_model}
+use Rattle.smv_models.specs.Limits.{most_smv_bytes}
+use Rattle.smv_models.specs.Models.{IsCheckRefusal, IsFormIn, smv_too_long}
+use Rattle.smv_models.proofs.Checked.{not_checked, one_check_refusal}
+use Rattle.smv_models.proofs.Sources.{same_model}
 use Rattle.smv_commands.specs.Translation.{Accepts, btor_text}
 use Rattle.witness_lift.specs.Breaking.{IsFormOf}
 use Rattle.witness_lift.specs.LineLaws.{ModelLinesAreSpelled, model_lines}

@@ -25,30 +25,22 @@ use Rattle.command_core.specs.Giving.{MayGive}
 use Rattle.command_core.specs.Reading.{ContinuesWith, StopsWith, file_within}
 use Rattle.command_core.specs.laws.Files.{goes_once}
 use Rattle.command_core.specs.laws.Given.{also_ok, also_stop, of_each}
-use Rattle.smv_commands.specs.Limits.{most_smv_bytes, most_trace_bytes}
-use Rattle.smv_commands.specs.Models.{IsCheckRefusal, IsFormIn, smv_too_long}
+use Rattle.smv_models.specs.Limits.{most_smv_bytes}
+use Rattle.smv_commands.specs.Limits.{most_trace_bytes}
+use Rattle.smv_models.specs.Models.{IsCheckRefusal, IsFormIn, smv_too_long}
 use Rattle.smv_commands.specs.SmvJudgement.{IsSmvJudgement, verdict_answer}
 use Rattle.smv_commands.specs.Traces.{IsAnswerToTrace, IsRunAnswer, OfBytes, OfForm, OfModel, OfText, of_trace, trace_too_long}
 use Rattle.trace_lower.specs.Laws.{declared_by}
 use Rattle.trace_lower.specs.Lowered.{verdict_on}
-use Rattle.smv_commands.proofs.Checked.{not_checked, one_check_refusal}
-use Rattle.smv_commands.proofs.Sources.{same_model}
+use Rattle.smv_models.proofs.Checked.{not_checked, one_check_refusal}
+use Rattle.smv_models.proofs.Forms.{flat_form}
+use Rattle.smv_models.proofs.Sources.{same_model}
 
 -- ---- flat forms
 
 -- what a flat form declares is what its model declares
 pub declared_same : (source : PlainSource) (f : FlatModel) → IsFormOf source f → declarations_of f ≡ declared_by source
 declared_same source f form = ap (λ (x : PlainFlat). record { items = x.items; symbols = x.symbols }) form.form
-
-pub flat_form : (source : PlainSource) (f : FlatModel) → IsFormOf source f → IsFlatOf source (flat_plain f)
-flat_form source f form = record { needed = form.needed; read = form.read; accepted = form.accepted; form = form.form }
-
--- the flat form is that of some model
-pub has_form : (bytes : List ℕ) (needed : ℕ) (f : FlatModel) → IsFormIn bytes needed f → (source : PlainSource) × IsFormOf source f
-has_form bytes needed f h = (h.source, h.form)
-
-pub has_flat : (f : FlatModel) → (source : PlainSource) × IsFormOf source f → (source : PlainSource) × IsFlatOf source (flat_plain f)
-has_flat f h = (h.0, flat_form h.0 f h.1)
 
 -- ---- the second file
 

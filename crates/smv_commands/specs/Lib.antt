@@ -1,5 +1,4 @@
 pub mod Limits
-pub mod Models
 pub mod Scripts
 pub mod Traces
 pub mod SmvJudgement

@@ -17,11 +17,19 @@ use Rattle.witness_lift.specs.LineLaws.{model_lines}
 use Rattle.command_core.specs.declared.answer.Answer.{Answer}
 use Rattle.command_core.specs.declared.answer.Answer.TheVariants.{No, Done}
 use Rattle.command_core.specs.declared.answer.Output.TheVariants.{Text}
-use Rattle.smv_commands.specs.Models.{IsAcceptedModel}
+use Rattle.smv_models.specs.Models.{IsAcceptedModel}
 use Rattle.smv_commands.specs.SmvLift.{lifted_run}
 use Rattle.smv_commands.specs.Traces.{IsAnswerToTrace}
 use Rattle.trace_lower.specs.Laws.{declared_by}
 use Rattle.smv_commands.specs.Translation.{btor_text}
+
+-- the trace states this run of the model
+abbrev pub IsTraceOf : PlainSource → List ℕ → Run → Type 0
+IsTraceOf source trace run = trace_of (declared_by source) trace ≡ Ok run
+
+-- the judge accepts the run for this invariant
+abbrev pub IsAcceptedRun : PlainSource → ℕ → Run → Type 0
+IsAcceptedRun source j run = verdict_on source j run ≡ verdict.Yes
 
 -- the printed witness that states the run
 unfoldable pub lowered_text : PlainSource → ℕ → Run → List ℕ
@@ -52,7 +60,7 @@ pub record StatesRun (source : PlainSource) (j : ℕ) (run : Run) (text : List �
 
 -- for each accepted trace of an accepted model, the written text states its run
 abbrev pub RunsAreLowered : Type 0
-RunsAreLowered = (bytes : List ℕ) (j : ℕ) (source : PlainSource) → IsAcceptedModel bytes j source → (trace : List ℕ) (run : Run) → trace_of (declared_by source) trace ≡ Ok run → verdict_on source j run ≡ verdict.Yes
+RunsAreLowered = (bytes : List ℕ) (j : ℕ) (source : PlainSource) → IsAcceptedModel bytes j source → (trace : List ℕ) (run : Run) → IsTraceOf source trace run → IsAcceptedRun source j run
     → StatesRun source j run (lowered_text source j run)
 
 -- the written text is the witness of the run that the trace in the second file states, for the model in the first
@@ -64,8 +72,8 @@ pub record IsLoweredTrace (files : Files) (model second : List ℕ) (j : ℕ) (b
   pub trace : List ℕ
   pub second_there : file_at files second ≡ Some trace
   pub run : Run
-  pub states : trace_of (declared_by source) trace ≡ Ok run
-  pub judged : verdict_on source j run ≡ verdict.Yes
+  pub states : IsTraceOf source trace run
+  pub judged : IsAcceptedRun source j run
   pub text : List ℕ
   pub written : now ≡ grown before text
   pub stated : StatesRun source j run text

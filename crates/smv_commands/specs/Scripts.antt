@@ -8,11 +8,11 @@ use Rattle.moxi_scripts.specs.Script.{PlainScript}
 use Rattle.moxi_script_print.specs.Printing.{shown_script}
 use Rattle.command_core.specs.declared.answer.Answer.{Answer}
 use Rattle.btor_commands.specs.Traces.{HasTrace, SpellsText}
-use Rattle.smv_commands.specs.Limits.{most_smv_bytes}
+use Rattle.smv_models.specs.Limits.{most_smv_bytes}
 use Rattle.command_core.specs.Reading.{ContinuesWith, file_within}
 use Rattle.command_core.specs.Texts.{IsTextOr}
 use Rattle.smv_script_laws.specs.RunLaws.{HasRun, invariant_count}
-use Rattle.smv_commands.specs.Models.{IsAcceptedModel, IsCheckRefusal, smv_too_long}
+use Rattle.smv_models.specs.Models.{IsAcceptedModel, IsCheckRefusal, smv_too_long}
 
 -- the printed script of a model
 unfoldable pub moxi_text : PlainSource → List ℕ

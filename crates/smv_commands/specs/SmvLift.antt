@@ -23,8 +23,8 @@ use Rattle.witness_lift.specs.LineLaws.{model_system}
 use Rattle.witness_lift.specs.Lifting.{lifted_run as run_lifted_to}
 use Rattle.command_core.specs.declared.answer.Answer.{Answer}
 use Rattle.command_core.specs.Reading.{ContinuesWith, file_within}
-use Rattle.smv_commands.specs.Limits.{most_smv_bytes}
-use Rattle.smv_commands.specs.Models.{IsAcceptedModel, IsRefusal, smv_too_long}
+use Rattle.smv_models.specs.Limits.{most_smv_bytes}
+use Rattle.smv_models.specs.Models.{IsAcceptedModel, IsRefusal, smv_too_long}
 use Rattle.smv_commands.specs.Translation.{Accepts, btor_text}
 use Rattle.btor_commands.specs.Lifting.{OfLines}
 use Rattle.moxi_scripts.specs.Behaviour.{trace_of}

@@ -15,8 +15,9 @@ use Rattle.trace_lower.specs.Lowered.{verdict_on}
 use Rattle.command_core.specs.declared.answer.Answer.{Answer}
 use Rattle.command_core.specs.declared.answer.Answer.TheVariants.{SecondRefused}
 use Rattle.command_core.specs.Reading.{ContinuesWith, SaysRead, file_within}
-use Rattle.smv_commands.specs.Limits.{most_smv_bytes, most_trace_bytes}
-use Rattle.smv_commands.specs.Models.{IsAcceptedModel, IsRefusal, smv_too_long}
+use Rattle.smv_models.specs.Limits.{most_smv_bytes}
+use Rattle.smv_commands.specs.Limits.{most_trace_bytes}
+use Rattle.smv_models.specs.Models.{IsAcceptedModel, IsRefusal, smv_too_long}
 
 -- the answer for a trace that is too long
 abbrev pub trace_too_long : Answer

@@ -10,8 +10,8 @@ use Rattle.btor_tree.specs.Texts.{SpellsLines}
 use Rattle.command_core.specs.declared.answer.Answer.{Answer}
 use Rattle.command_core.specs.Reading.{ContinuesWith, file_within}
 use Rattle.command_core.specs.Texts.{IsTextOr}
-use Rattle.smv_commands.specs.Limits.{most_smv_bytes}
-use Rattle.smv_commands.specs.Models.{IsAcceptedModel, IsCheckRefusal, smv_too_long}
+use Rattle.smv_models.specs.Limits.{most_smv_bytes}
+use Rattle.smv_models.specs.Models.{IsAcceptedModel, IsCheckRefusal, smv_too_long}
 use Rattle.witness_lift.specs.LineLaws.{Translates, model_lines}
 
 -- the text written for a model: the printed lines of its script's flat system

@@ -11,13 +11,14 @@ ghost use Rattle.witness_lift.specs.Breaking.{IsFormOf};
 ghost use Rattle.command_core.specs.declared.answer.Stop.TheVariants as Stop;
 ghost use Rattle.smv_commands.specs.SmvJudgement.{IsSmvJudgement, verdict_answer};
 ghost use Rattle.smv_commands.specs.Traces.{IsRunAnswer, OfForm, trace_too_long, OfBytes};
-ghost use Rattle.smv_commands.specs.Limits.{most_trace_bytes, most_smv_bytes};
-ghost use Rattle.smv_commands.specs.Models.{smv_too_long};
+ghost use Rattle.smv_models.specs.Limits.{most_smv_bytes};
+ghost use Rattle.smv_commands.specs.Limits.{most_trace_bytes};
+ghost use Rattle.smv_models.specs.Models.{smv_too_long};
 
-use crate::models::{SMV_LIMIT, flat_in};
 use command_core::{Answer, FirstFile, LastFile, Output, Stop, answer_file, answer_files, refusal};
 use smv_flatten::Flat;
 use smv_judge::judge_numbered;
+use smv_models::{SMV_LIMIT, flat_in};
 use smv_numbered::NumberedRun;
 use smv_trace::{MOST_BYTES, read_numbered};
 use std::alloc::Global;
@@ -63,7 +64,7 @@ impl<'a> LastFile for JudgeTrace<'a> {
 }
 
 // The answer for the verdict on a run.
-#[tactic(auto, using(crate::proofs::TraceAnswers::has_flat, crate::proofs::TraceAnswers::numbered_yes, crate::proofs::TraceAnswers::said_no))]
+#[tactic(auto, using(smv_models::proofs::Forms::has_flat, crate::proofs::TraceAnswers::numbered_yes, crate::proofs::TraceAnswers::said_no))]
 fn run_answer(alloc: Global, flat: &Flat, j: u32, run: &NumberedRun) -> Result<Answer, Stop>
     requires model { (source : PlainSource) × IsFormOf source flat.now }
     requires few { length run.now.ends < 2 ^ 32 }
@@ -108,7 +109,7 @@ impl FirstFile for JudgeSmv {
         Answer::Refused(refusal(smv::TOO_LONG))
     }
 
-    #[tactic(auto, using(crate::proofs::TraceAnswers::has_form, crate::proofs::TraceAnswers::trace_given, crate::proofs::TraceAnswers::trace_stops, crate::proofs::TraceAnswers::refusal_given))]
+    #[tactic(auto, using(smv_models::proofs::Forms::has_form, crate::proofs::TraceAnswers::trace_given, crate::proofs::TraceAnswers::trace_stops, crate::proofs::TraceAnswers::refusal_given))]
     fn answer<F: Shelf>(
         &self,
         alloc: Global,

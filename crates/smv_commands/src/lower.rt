@@ -11,12 +11,13 @@ ghost use Rattle.witness_lift.specs.Breaking.{IsFormOf};
 ghost use Rattle.command_core.specs.declared.answer.Stop.TheVariants as Stop;
 ghost use Rattle.smv_commands.specs.Lowering.{IsLowering, RunsAreLowered, lowered_answer};
 ghost use Rattle.smv_commands.specs.Traces.{IsRunAnswer, OfForm, trace_too_long, OfBytes};
-ghost use Rattle.smv_commands.specs.Limits.{most_trace_bytes, most_smv_bytes};
-ghost use Rattle.smv_commands.specs.Models.{smv_too_long};
+ghost use Rattle.smv_models.specs.Limits.{most_smv_bytes};
+ghost use Rattle.smv_commands.specs.Limits.{most_trace_bytes};
+ghost use Rattle.smv_models.specs.Models.{smv_too_long};
 
-use crate::models::{SMV_LIMIT, chain_in};
 use btor_witness::{print_witness, printed_is_read};
 use command_core::{Answer, FirstFile, LastFile, Output, Stop, answer_file, answer_files, refusal};
+use smv_models::{SMV_LIMIT, chain_in};
 use smv_numbered::NumberedRun;
 use smv_trace::{MOST_BYTES, read_numbered};
 use std::alloc::Global;
@@ -106,7 +107,7 @@ impl FirstFile for LowerSmv {
         Answer::Refused(refusal(smv::TOO_LONG))
     }
 
-    #[tactic(auto, using(crate::proofs::TraceAnswers::has_form, crate::proofs::TraceAnswers::refusal_given))]
+    #[tactic(auto, using(smv_models::proofs::Forms::has_form, crate::proofs::TraceAnswers::refusal_given))]
     fn answer<F: Shelf>(
         &self,
         alloc: Global,

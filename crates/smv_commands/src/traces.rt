@@ -13,14 +13,14 @@ ghost use Rattle.smv_commands.specs.SmvLift.{IsSmvLift, RunsAreLifted, trace_in,
 ghost use Rattle.btor_commands.specs.Judgement.{witness_too_long};
 ghost use Rattle.btor_commands.specs.Limits.{most_witness_bytes};
 ghost use Rattle.btor_commands.specs.laws.Lifts.{says};
-ghost use Rattle.smv_commands.specs.Limits.{most_smv_bytes};
-ghost use Rattle.smv_commands.specs.Models.{smv_too_long};
+ghost use Rattle.smv_models.specs.Limits.{most_smv_bytes};
+ghost use Rattle.smv_models.specs.Models.{smv_too_long};
 
-use crate::models::{SMV_LIMIT, chain_in};
 use btor_commands::witness_in;
 use btor_witness::{MOST_BYTES, Witness};
 use command_core::{Answer, FirstFile, LastFile, Output, Stop, answer_file, answer_files, refusal};
 use moxi_lift::lifts_meet_queries;
+use smv_models::{SMV_LIMIT, chain_in};
 use smv_trace::print_trace;
 use std::alloc::Global;
 use text_core::kinds::{smv, witness};

@@ -8,13 +8,13 @@ ghost use Rattle.command_core.specs.laws.Texts.{text_says};
 ghost use Rattle.command_core.specs.Reading.{StopsUnread, StopsWith};
 ghost use Rattle.smv_text.specs.Tree.{PlainSource};
 ghost use Rattle.witness_lift.specs.Breaking.{IsFormOf};
-ghost use Rattle.smv_commands.specs.Limits.{most_smv_bytes};
-ghost use Rattle.smv_commands.specs.Models.{IsCheckRefusal, IsModelEnd, smv_too_long};
+ghost use Rattle.smv_models.specs.Limits.{most_smv_bytes};
+ghost use Rattle.smv_models.specs.Models.{IsCheckRefusal, IsModelEnd, smv_too_long};
 ghost use Rattle.smv_commands.specs.Translation.{IsBtorText, IsTranslation, OfBytes, TranslationsAreCorrect, btor_text};
 
-use crate::models::{SMV_LIMIT, chain_in};
 use btor_text::print_btor;
 use command_core::{Answer, LastFile, Stop, answer_file, refusal, text_answer};
+use smv_models::{SMV_LIMIT, chain_in};
 use std::alloc::Global;
 use text_core::kinds::smv;
 use text_core::{End, Name, Shelf, Text};
@@ -64,7 +64,7 @@ pub fn smv_to_btor<F: Shelf>(alloc: Global, model: &Name, shelf: &mut F) -> Resu
 }
 
 // The BTOR2 text of the model to which the bytes parse, or their refusal.
-#[tactic(auto, using(crate::proofs::LinesGiven::made_of_bytes, crate::proofs::Forms::memory_ends))]
+#[tactic(auto, using(crate::proofs::LinesGiven::made_of_bytes, smv_models::proofs::Forms::memory_ends))]
 fn translate(alloc: Global, bytes: &[u8]) -> Result<Text, End>
     requires { length bytes.now ≤ most_smv_bytes }
     ensures text { IfOk result (IsBtorText bytes.now) }

@@ -30,12 +30,9 @@ use Rattle.btor_commands.proofs.Judgements.{one_judgement}
 use Rattle.smv_commands.proofs.TraceAnswers.{one_smv_judgement}
 use Rattle.smv_commands.proofs.LoweredRuns as lowerings
 use Rattle.smv_commands.proofs.LoweredRuns.{one_lowering}
-use Rattle.smv_commands.specs.Lowering.{RunsAreLowered, StatesRun, lowered_text}
-use Rattle.smv_commands.specs.Models.{IsAcceptedModel}
-use Rattle.trace_lower.specs.Laws.{declared_by}
-use Rattle.trace_lower.specs.Lowered.{verdict_on}
+use Rattle.smv_commands.specs.Lowering.{IsAcceptedRun, IsTraceOf, RunsAreLowered, StatesRun, lowered_text}
+use Rattle.smv_models.specs.Models.{IsAcceptedModel}
 use Rattle.smv_meaning.specs.declared.value.Run.{Run}
-use Rattle.smv_trace.specs.Texts.{trace_of}
 use Rattle.smv_commands.proofs.ScriptStands.{one_script}
 use Rattle.smv_commands.proofs.Given as scripts
 use Rattle.moxi_scripts.specs.Script.{PlainScript}
@@ -354,8 +351,8 @@ run_lifts once lifted (Some fs) command shelf out notes a s before now m ends ta
 
 -- a trace of an accepted model of which the judge says Yes is written as the witness that states its run
 pub run_lowers : (once : OneGenerated) → (lowered : RunsAreLowered) (files : Option Files) (command : Option Command) (shelf out notes : Type 0) (a : Answer) (s : Status) (before now : Option (List ℕ)) → MayAnswer files command shelf a → Ends s a → (s ≢ status.WriteFault → now ≡ grown before (text_of a)) → (s ≡ status.WriteFault → out ⊎ notes)
-    → IfSome files (λ fs. (model second bytes trace : List ℕ) (j : ℕ) (source : PlainSource) (run : Run) → command ≡ Some (Lower model second j) → file_at fs model ≡ Some bytes → IsAcceptedModel bytes j source → file_at fs second ≡ Some trace → trace_of (declared_by source) trace ≡ Ok run
-    → verdict_on source j run ≡ Yes → (shelf → ⊥) → (out → ⊥) → (notes → ⊥) → s ≢ status.NoMemory → (s ≡ status.Done) × ((text : List ℕ) × (now ≡ grown before text) × StatesRun source j run text))
+    → IfSome files (λ fs. (model second bytes trace : List ℕ) (j : ℕ) (source : PlainSource) (run : Run) → command ≡ Some (Lower model second j) → file_at fs model ≡ Some bytes → IsAcceptedModel bytes j source → file_at fs second ≡ Some trace → IsTraceOf source trace run
+    → IsAcceptedRun source j run → (shelf → ⊥) → (out → ⊥) → (notes → ⊥) → s ≢ status.NoMemory → (s ≡ status.Done) × ((text : List ℕ) × (now ≡ grown before text) × StatesRun source j run text))
 run_lowers once lowered None command shelf out notes a s before now m ends taken w = tt
 run_lowers once lowered (Some fs) command shelf out notes a s before now m ends taken w = λ model second bytes trace j source run is there acc second_there states judged sh o n memory.
     let answer = Done (Text (lowered_text source j run)) in

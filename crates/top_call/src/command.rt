@@ -1,5 +1,5 @@
 // The top call: reads the words as a command, runs it, and writes its answer.
-ghost use Rattle.std.specs.Prelude.{◌≡◌, ◌≢◌, ◌⊎◌, ◌<◌, ◌≤◌, length, map, string_bytes, None, Some, Ok, IfOk, IfSome, OnErr, List, ℕ};
+ghost use Rattle.std.specs.Prelude.{◌≡◌, ◌≢◌, ◌⊎◌, ◌<◌, ◌≤◌, length, map, string_bytes, None, Some, IfOk, IfSome, OnErr, List, ℕ};
 ghost use Rattle.text_core.specs.Outside.{file_at, grown, HasNewFault};
 ghost use Rattle.text_core.specs.declared.place.Refusal.{Refusal};
 ghost use Rattle.text_core.specs.declared.verdict.Clause.{Clause};
@@ -27,12 +27,9 @@ ghost use Rattle.moxi_commands.specs.MoxiLift.{LiftsBack as RespondsBack};
 ghost use Rattle.top_call.specs.Routes.{KeepsFrames};
 ghost use Rattle.moxi_commands.specs.Limits.{most_script_bytes};
 ghost use Rattle.smv_commands.specs.SmvLift.{LiftsBack};
-ghost use Rattle.smv_commands.specs.Lowering.{StatesRun};
-ghost use Rattle.smv_commands.specs.Models.{IsAcceptedModel};
-ghost use Rattle.trace_lower.specs.Laws.{declared_by};
-ghost use Rattle.trace_lower.specs.Lowered.{verdict_on};
+ghost use Rattle.smv_commands.specs.Lowering.{IsAcceptedRun, IsTraceOf, StatesRun};
+ghost use Rattle.smv_models.specs.Models.{IsAcceptedModel};
 ghost use Rattle.smv_meaning.specs.declared.value.Run.{Run};
-ghost use Rattle.smv_trace.specs.Texts.{trace_of};
 ghost use Rattle.generate.specs.Generating.{IsGenerated};
 ghost use Rattle.top_call.specs.Words.{BeginsNoSecond, IsInRange, HasCorrectOutput, command_of};
 
@@ -86,7 +83,7 @@ pub fn run<F: Shelf, K: Sink, N: Sink>(
     // is lifted to the trace of the same run.
     ensures lowers { IfSome (F.files shelf.old) (λ files. (model second bytes trace : List ℕ) (j : ℕ) (source : PlainSource) (run : Run)
         → command_of (map string_bytes words.now.items) ≡ Some (Command.Lower model second j) → file_at files model ≡ Some bytes → IsAcceptedModel bytes j source
-        → file_at files second ≡ Some trace → trace_of (declared_by source) trace ≡ Ok run → verdict_on source j run ≡ Yes
+        → file_at files second ≡ Some trace → IsTraceOf source trace run → IsAcceptedRun source j run
         → ¬ HasNewFault (F.faults shelf.old) (F.faults shelf.new) → ¬ HasNewFault (K.faults out.old) (K.faults out.new) → ¬ HasNewFault (N.faults notes.old) (N.faults notes.new)
         → result ≢ Status.NoMemory
         → (result ≡ Status.Done) × ((text : List ℕ) × (K.taken out.new ≡ grown (K.taken out.old) text) × StatesRun source j run text)) }

@@ -6,7 +6,7 @@ use Rattle.smv_judge.specs.Models.{IsFlatOf, IsListedRun}
 use Rattle.smv_meaning.specs.declared.value.Run.{Run}
 use Rattle.smv_meaning.specs.Runs.{judged_smv}
 use Rattle.smv_meaning.specs.Values.{given}
-use Rattle.smv_commands.proofs.TraceAnswers.{flat_form, has_flat}
+use Rattle.smv_models.proofs.Forms.{flat_form, has_flat}
 use Rattle.witness_lift.specs.Lifting.{lines_in}
 use Rattle.generate.specs.Generating.{IsSummary, verdict_for}
 use Rattle.generate.specs.Verdicts.{is_yes}

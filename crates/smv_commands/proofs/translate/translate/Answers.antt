@@ -1,4 +1,4 @@
-use Rattle.smv_commands.proofs.Forms.{memory_ends}
+use Rattle.smv_models.proofs.Forms.{memory_ends}
 use Rattle.smv_commands.proofs.translate.translate.Goals as goal
 
 pub returns-in-Ok-clause-refused : goal.returns-in-Ok-clause-refused

@@ -17,7 +17,7 @@ use Rattle.smv_flatten.specs.FlatModel.{FlatModel}
 use Rattle.witness_lift.specs.Breaking.{IsFormOf}
 use Rattle.command_core.specs.declared.answer.Answer.{Answer}
 use Rattle.command_core.specs.declared.answer.Answer.TheVariants.{Refused}
-use Rattle.smv_commands.specs.Limits.{most_smv_bytes}
+use Rattle.smv_models.specs.Limits.{most_smv_bytes}
 
 -- the bytes, within the limit, spell this model, and none of its expressions is too high
 pub record IsModel (bytes : List ℕ) (model : PlainSource) : Type 0 where

@@ -7,9 +7,9 @@ use Rattle.smv_meaning.specs.Phases.{checks_of, first_refusal}
 use Rattle.smv_lex.proofs.Laws as laws
 use Rattle.smv_lex.proofs.Laws.{one_lex_refusal, one_lexing}
 use Rattle.smv_parse.specs.laws.Refusals.{one_refusal}
-use Rattle.smv_commands.specs.Models.{IsAcceptedModel, IsCheckRefusal, IsTextRefusal}
-use Rattle.smv_commands.specs.Models.{IsModel}
-use Rattle.smv_commands.proofs.Sources.{GrammarRefusal, grammar_no_model, one_some, refused_none, same_model}
+use Rattle.smv_models.specs.Models.{IsAcceptedModel, IsCheckRefusal, IsTextRefusal}
+use Rattle.smv_models.specs.Models.{IsModel}
+use Rattle.smv_models.proofs.Sources.{GrammarRefusal, grammar_no_model, one_some, refused_none, same_model}
 
 one_text_refusal : (bytes : List ℕ) (why other : Refusal) → IsTextRefusal bytes why → IsTextRefusal bytes other → why ≡ other
 one_text_refusal bytes why other (inl a) (inl b) = one_lex_refusal bytes why other a b

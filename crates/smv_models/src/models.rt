@@ -1,8 +1,8 @@
 // SMV models, parsed from bytes.
 ghost use Rattle.std.specs.Prelude.{◌≤◌, length, IfOk, IfErr};
 ghost use Rattle.smv_text.specs.View.{plain_source};
-ghost use Rattle.smv_commands.specs.Limits.{most_smv_bytes};
-ghost use Rattle.smv_commands.specs.Models.{IsFormIn, IsModel, IsModelEnd, IsTextEnd};
+ghost use Rattle.smv_models.specs.Limits.{most_smv_bytes};
+ghost use Rattle.smv_models.specs.Models.{IsFormIn, IsModel, IsModelEnd, IsTextEnd};
 
 use smv_flatten::{Flat, flatten};
 use smv_lex::lex;

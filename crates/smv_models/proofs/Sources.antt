@@ -12,7 +12,7 @@ use Rattle.smv_meaning.specs.Checks.{Check, passes, first_failing}
 use Rattle.smv_parse.specs.Parsing.{IsRefused}
 use Rattle.smv_grammar.proofs.Models.{one_list as one_model}
 use Rattle.smv_parse.specs.laws.Refusals.{refused_not_low}
-use Rattle.smv_commands.specs.Models.{IsModel}
+use Rattle.smv_models.specs.Models.{IsModel}
 
 -- bytes spell one model
 same_source : (m n : PlainSource) → m.modules ≡ n.modules → m.end ≡ n.end → m ≡ n
