@@ -1,9 +1,10 @@
 // Types of expressions that use no names.
 use crate::models::{expression_of, expression_source};
 use case_text::{Answer, Fault, Piece, piece_bytes};
+use smv_flat::type_of;
 use smv_intervals::Ty;
 use smv_text::{Expr, Path};
-use smv_types::{Named, Position, Scope, type_of};
+use smv_types::{Named, Position, Scope};
 use std::alloc::Global;
 
 /// A scope in which no path has a meaning.

@@ -1,5 +1,2 @@
-pub mod FlatMade
 pub mod FlatViews
-pub mod FlatShapes
-pub mod FormLemmas
-pub mod OwnLemmas
+pub mod TypedNodes

@@ -3,5 +3,4 @@ pub mod FlatForms
 pub mod FlatView
 pub mod FlatFormulas
 pub mod FlatParts
-pub mod Targets
 pub mod laws

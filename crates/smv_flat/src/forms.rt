@@ -1,8 +1,7 @@
 // The formulas of a model.
 
 use crate::expressions::FlatExpr;
-use smv_text::{Expr, When};
-use smv_types::Position;
+use smv_text::When;
 
 /// The role of a formula: the body of an item, an assignment to an item, or the kind of its section.
 #[derive(Clone, Copy, PartialEq, Eq)]
@@ -24,17 +23,4 @@ pub struct FlatFormula {
     pub instance: u32,
     pub role: Role,
     pub body: FlatExpr,
-}
-
-/// A formula as written in the model.
-///
-/// It has its role, the number of its instance, and its expression with its position. `reader` is the number of the
-/// instance in which the expression is read.
-#[derive(Clone, Copy)]
-pub struct SourceFormula<'a> {
-    pub instance: u32,
-    pub role: Role,
-    pub reader: usize,
-    pub body: &'a Expr,
-    pub position: Position,
 }

@@ -1,21 +1,19 @@
-//! The flat form of SMV models: formulas over numbered items and symbols, with the type of each node.
+//! Flat expressions of SMV models, over numbered items and symbols, and the pass that types an expression and makes its
+//! flat form.
 #![tactic(auto)]
 
-mod context;
 mod expressions;
-mod flat;
 mod forms;
-mod formulas;
 mod naming;
-mod node_types;
 mod nodes;
 mod parts;
-mod targets;
+mod typing;
 
 pub use expressions::{
     FlatBranch, FlatBranches, FlatExpr, FlatExprs, FlatLink, FlatLinks, FlatShape,
 };
 pub use forms::{FlatFormula, Role};
-pub use formulas::formulas_in;
-pub use naming::Naming;
+pub use naming::{Naming, Resolved};
+pub use nodes::Typed;
 pub use parts::FlatParts;
+pub use typing::{type_of, typed};

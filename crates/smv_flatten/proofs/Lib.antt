@@ -1,4 +1,4 @@
 pub mod InvariantLengths
-pub mod Lists
+pub mod Items
 pub mod Models
 pub mod ItemNumbers

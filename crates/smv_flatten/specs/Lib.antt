@@ -1,5 +1,6 @@
-pub mod Accepting
 pub mod FlatModel
+pub mod Listing
 pub mod Ordering
+pub mod Phases
 pub mod Refusing
 pub mod laws

@@ -14,8 +14,8 @@ pub(crate) fn weight_in(table: &Table) -> u32
     ensures { result ≡ sum_by (λ at. at.module.tokens) (map instance_plain table.now) }
 {
     let mut weight: u32 = 0;
-    for i in 0..table.len() {
-        weight += table.at(i).module.tokens;
+    for part in table.list() {
+        weight += part.module.tokens;
     }
     weight
 }
@@ -44,8 +44,8 @@ fn counted_all(count: u32, elements: &Elements) -> u32
     ensures { (i : ℕ) → result ≡ count + length (flat_map (element_invariants i) (map plain_element elements.now)) }
 {
     let mut all = count;
-    for k in 0..elements.len() {
-        all = counted(all, elements.at(k));
+    for element in elements.as_slice() {
+        all = counted(all, element);
     }
     all
 }
@@ -57,8 +57,8 @@ pub(crate) fn invariant_count(table: &Table) -> u32
     ensures { result ≡ length (invariants_in (map instance_plain table.now)) }
 {
     let mut count: u32 = 0;
-    for i in 0..table.len() {
-        count = counted_all(count, &table.at(i).module.elements);
+    for part in table.list() {
+        count = counted_all(count, &part.module.elements);
     }
     count
 }

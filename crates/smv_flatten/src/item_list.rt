@@ -1,19 +1,17 @@
-// The items of a model, each with its type.
-ghost use Rattle.std.specs.Prelude.{◌≡◌, map, IfOk};
-ghost use Rattle.smv_instances.specs.View.{instance_plain};
-ghost use Rattle.smv_model_types.specs.Outcome.{AreTypesOf};
-ghost use Rattle.smv_items.specs.FlatItems.{kind_of, flat_item_of};
+// The items of a model, each with its dotted path and its type.
+ghost use Rattle.std.specs.Prelude.{◌≡◌, length, map, option_map, IfOk};
+ghost use Rattle.smv_intervals.specs.View.{seen};
+ghost use Rattle.smv_items.specs.FlatItems.{kind_of, type_or_truth};
 ghost use Rattle.smv_items.specs.FlatItemView.{item_plain};
 ghost use Rattle.smv_items.specs.FlatOrigins.{content_plain, origin_plain};
+ghost use Rattle.smv_flatten.specs.Listing.{item_with, items_with};
 
-use crate::item_types::item_type;
 use crate::members::members_of;
-use smv_instances::Table;
-use smv_items::{Content, FlatItem, ItemKind, Origin, dotted_path};
-use smv_model_types::Types;
+use smv_intervals::Ty;
+use smv_items::{Content, FlatItem, ItemKind, Origin};
 use smv_text::VarKind;
 use std::alloc::Global;
-use text_core::NoMemory;
+use text_core::{Name, NoMemory};
 
 fn kind_of(content: &Content) -> ItemKind
     ensures { result ≡ kind_of (content_plain content.now) }
@@ -27,43 +25,52 @@ fn kind_of(content: &Content) -> ItemKind
     }
 }
 
-fn flat_item<'a>(
-    alloc: Global,
-    table: &Table<'a>,
-    types: &Types<'a>,
-    origin: &Origin<'a>,
-) -> Result<FlatItem, NoMemory>
-    requires { AreTypesOf (map instance_plain table.now) types.now }
-    ensures { IfOk result (λ m. item_plain m ≡ flat_item_of (map instance_plain table.now) (origin_plain origin.now)) }
+fn type_or_truth(t: Option<Ty>) -> Ty
+    ensures { seen result ≡ type_or_truth (option_map seen t) }
 {
-    let ty = item_type(alloc, table, types, &origin.content)?;
+    match t {
+        Some(t) => t,
+        None => Ty::Truth,
+    }
+}
+
+fn flat_item(
+    alloc: Global,
+    origin: &Origin,
+    name: Name,
+    ty: Option<Ty>,
+) -> Result<FlatItem, NoMemory>
+    ensures { IfOk result (λ m. item_plain m ≡ item_with (origin_plain origin.now) name (option_map seen ty)) }
+{
     let members = members_of(alloc, &origin.content)?;
-    let name = dotted_path(alloc, table, origin.instance as usize, origin.name)?;
-    let kind = kind_of(&origin.content);
     Ok(FlatItem {
         name,
         instance: origin.instance,
-        kind,
-        ty,
+        kind: kind_of(&origin.content),
+        ty: type_or_truth(ty),
         members,
     })
 }
 
-/// Returns the items of these origins.
-#[tactic(auto, using(smv_meaning::specs::laws::Lists::front_is, smv_meaning::specs::laws::Lists::end_is, text_core::proofs::ListLaws::joined_on, text_core::proofs::ListLaws::append_none))]
-pub(crate) fn flat_items<'a>(
+/// Returns the items with these origins, dotted paths and types.
+///
+/// An item without a type is `boolean`.
+pub(crate) fn flat_items(
     alloc: Global,
-    table: &Table<'a>,
-    types: &Types<'a>,
-    origins: &[Origin<'a>],
+    origins: &[Origin],
+    paths: Vec<Name>,
+    types: &[Option<Ty>],
 ) -> Result<Vec<FlatItem>, NoMemory>
-    requires { AreTypesOf (map instance_plain table.now) types.now }
-    ensures { IfOk result (λ ms. map item_plain ms.items ≡ map (flat_item_of (map instance_plain table.now)) (map origin_plain origins.now)) }
+    requires paths { length paths.items ≡ length origins.now }
+    requires types { length types.now ≡ length origins.now }
+    ensures { IfOk result (λ ms. map item_plain ms.items ≡ items_with (map origin_plain origins.now) paths.items (map (option_map seen) types.now)) }
 {
-    let mut items = Vec::new(alloc);
-    for origin in origins {
-        let item = flat_item(alloc, table, types, origin)?;
+    let mut items = Vec::with_capacity(alloc, origins.len())?;
+    let mut k = 0;
+    for name in paths {
+        let item = flat_item(alloc, &origins[k], name, types[k])?;
         items.push(item)?;
+        k += 1;
     }
     Ok(items)
 }

@@ -37,13 +37,13 @@ pub type Leads<'a> = InstanceRows<'a, Lead<'a>>;
 /// Returns the lead of a name in instance i, or None where the name is an alias without a stored lead.
 ///
 /// `known` is the meaning of the name in its own instance.
-pub fn lead_of<'a>(
+pub fn lead_of<'a: 'p, 'p>(
     parts: &Parts<'a>,
     leads: &Leads<'a>,
     i: usize,
-    x: &'a [u8],
+    x: &'p [u8],
     known: Known<'a>,
-) -> Option<Lead<'a>>
+) -> Option<Lead<'p>>
     requires right { Right (map instance_plain parts.now) leads.now }
     requires known { local_plain known ≡ local (map instance_plain parts.now) i x.now }
     ensures { LeadAt (map instance_plain parts.now) leads.now i x.now result }
@@ -76,7 +76,7 @@ pub fn lead_of<'a>(
 }
 
 // The instance that a name denotes in its own instance.
-fn instance_named<'a>(parts: &Parts<'a>, i: usize, x: &'a [u8], known: Known<'a>) -> Option<usize>
+fn instance_named<'a>(parts: &Parts<'a>, i: usize, x: &[u8], known: Known<'a>) -> Option<usize>
     requires known { local_plain known ≡ local (map instance_plain parts.now) i x.now }
     ensures { IfSome result (λ c. (n : ℕ) → look (map instance_plain parts.now) n i x.now ≡ until 1 n (instance_at c)) }
 {
@@ -90,13 +90,13 @@ fn instance_named<'a>(parts: &Parts<'a>, i: usize, x: &'a [u8], known: Known<'a>
 }
 
 // The walk along a path of one name.
-fn name_walk<'a>(
+fn name_walk<'a: 'p, 'p>(
     parts: &Parts<'a>,
     leads: &Leads<'a>,
     i: usize,
-    x: &'a [u8],
+    x: &'p [u8],
     known: Known<'a>,
-) -> Walk<'a>
+) -> Walk<'p>
     requires right { Right (map instance_plain parts.now) leads.now }
     requires known { local_plain known ≡ local (map instance_plain parts.now) i x.now }
     ensures { WalkOf (map instance_plain parts.now) leads.now (λ n. walk (look (map instance_plain parts.now) n) i (x.now ∷ [])) result }
@@ -110,7 +110,12 @@ fn name_walk<'a>(
     }
 }
 
-fn names_walk<'a>(parts: &Parts<'a>, leads: &Leads<'a>, i: usize, names: &'a Names) -> Walk<'a>
+fn names_walk<'a: 'p, 'p>(
+    parts: &Parts<'a>,
+    leads: &Leads<'a>,
+    i: usize,
+    names: &'p Names,
+) -> Walk<'p>
     requires right { Right (map instance_plain parts.now) leads.now }
     ensures { WalkOf (map instance_plain parts.now) leads.now (λ n. walk (look (map instance_plain parts.now) n) i names.now) result }
 {
@@ -148,7 +153,12 @@ fn names_walk<'a>(parts: &Parts<'a>, leads: &Leads<'a>, i: usize, names: &'a Nam
 }
 
 /// Returns the walk along a path in the instance with this number.
-pub fn path_walk<'a>(parts: &Parts<'a>, leads: &Leads<'a>, i: usize, path: &'a Path) -> Walk<'a>
+pub fn path_walk<'a: 'p, 'p>(
+    parts: &Parts<'a>,
+    leads: &Leads<'a>,
+    i: usize,
+    path: &'p Path,
+) -> Walk<'p>
     requires right { Right (map instance_plain parts.now) leads.now }
     ensures { WalkOf (map instance_plain parts.now) leads.now (λ n. resolved (map instance_plain parts.now) (look (map instance_plain parts.now) n) i path.now) result }
 {

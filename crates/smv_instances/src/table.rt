@@ -59,7 +59,7 @@ pub fn is_same_name(one: &Path, other: &Path) -> bool
 }
 
 // The target of a lead, or a cycle where the lead needs more steps than the instances allow.
-fn reached<'a>(parts: &Parts<'a>, lead: Lead<'a>) -> Target<'a>
+fn reached<'p>(parts: &Parts, lead: Lead<'p>) -> Target<'p>
     ensures { (t : List Specified) → found_plain t result ≡ until lead.entry.depth (steps_of (map instance_plain parts.now)) (found_plain t lead.entry.target) }
 {
     if parts.steps() < lead.depth {
@@ -145,7 +145,9 @@ impl<'a> Table<'a> {
     }
 
     // The target of a path of one name, given the meaning of the name in its own instance.
-    fn target_of_single(&self, i: usize, x: &'a [u8], known: Known<'a>) -> Target<'a>
+    fn target_of_single<'p>(&self, i: usize, x: &'p [u8], known: Known<'a>) -> Target<'p>
+    where
+        'a: 'p,
         requires known { local_plain known ≡ local (map instance_plain self.now) i x.now }
         ensures { found_plain (map instance_plain self.now) result ≡ single (map instance_plain self.now) (look (map instance_plain self.now) (steps_of (map instance_plain self.now))) i x.now (local_plain known.entry) }
     {
@@ -166,7 +168,9 @@ impl<'a> Table<'a> {
     }
 
     /// Returns the target of a path in the instance with this number.
-    pub fn target(&self, i: usize, path: &'a Path) -> Target<'a>
+    pub fn target<'p>(&self, i: usize, path: &'p Path) -> Target<'p>
+    where
+        'a: 'p,
         ensures { found_plain (map instance_plain self.now) result ≡ found_in (map instance_plain self.now) i path.now }
     {
         if !path.from_self && path.names.len() == 1 {

@@ -19,7 +19,6 @@ use Rattle.name_maps.specs.declared.instance_rows.InstanceRows.{InstanceRows}
 use Rattle.name_maps.specs.declared.rows.NameRows.{NameRows}
 use Rattle.name_maps.specs.Rows.{row_named, row_in}
 use Rattle.smv_instances.specs.laws.ChildLemmas.{position_push}
-use Rattle.smv_items.specs.declared.items.FlatItem.{FlatItem}
 use Rattle.smv_items.specs.declared.origins.Origin.{Origin as StoredOrigin}
 use Rattle.smv_items.specs.declared.numbers.ItemNumbers.{ItemNumbers}
 use Rattle.smv_items.specs.declared.numbers.PathNumbers.{PathNumbers}
@@ -38,22 +37,22 @@ with_item f p xs k n x o new e h is s g =
     ∙ ap (λ m. if is_none (position p (map f (take k xs))) && p (f x) then Some m else position p (map f (take k xs))) (sym l)
     ∙ sym (position_push p (map f (take k xs)) (f x)) ∙ ap (position p) (sym b)
 
-both_at : {X Y Z : Type 0} (f : X → Z) (g : Y → Z) (xs : List X) (ys : List Y) (k : ℕ) (x : X) (y : Y) → map g ys ≡ map f xs → k < length xs → x ≡ get_or xs k x → y ≡ get_or ys k y → g y ≡ f x
-both_at f g [] ys k x y e h a b = absurd (omega arith)
-both_at f g (z ∷ xs) [] k x y e h a b = cc
-both_at f g (z ∷ xs) (w ∷ ys) zero x y e h a b = cc
-both_at f g (z ∷ xs) (w ∷ ys) (suc k) x y e h a b =
-    let rest : map g ys ≡ map f xs = cc in
-    both_at f g xs ys k x y rest (omega arith) a b
+both_at : {X Y : Type 0} (f : X → Y) (xs : List X) (ys : List Y) (k : ℕ) (x : X) (y : Y) → ys ≡ map f xs → k < length xs → x ≡ get_or xs k x → y ≡ get_or ys k y → y ≡ f x
+both_at f [] ys k x y e h a b = absurd (omega arith)
+both_at f (z ∷ xs) [] k x y e h a b = cc
+both_at f (z ∷ xs) (w ∷ ys) zero x y e h a b = cc
+both_at f (z ∷ xs) (w ∷ ys) (suc k) x y e h a b =
+    let rest : ys ≡ map f xs = cc in
+    both_at f xs ys k x y rest (omega arith) a b
 
 map_map : {X Y Z : Type 0} (g : Y → Z) (f : X → Y) (xs : List X) → map g (map f xs) ≡ map (λ x. g (f x)) xs
 map_map g f [] = refl
 map_map g f (x ∷ xs) = ap (λ ys. g (f x) ∷ ys) (map_map g f xs)
 
--- the name of an item is its dotted path
-path_at : (t : List Instance) (xs : List StoredOrigin) (items : List FlatItem) (k : ℕ) (o : StoredOrigin) (m : FlatItem) → map (λ m. m.name) items ≡ map (path_of t) (map origin_plain xs) → k < length xs → o ≡ get_or xs k o
-    → m ≡ get_or items k m → m.name ≡ path_of t (origin_plain o)
-path_at t xs items k o m e h a g = both_at (λ m. path_of t (origin_plain m)) (λ (m : FlatItem). m.name) xs items k o m (e ∙ map_map (path_of t) origin_plain xs) h a g
+-- the dotted path of an item
+path_at : (t : List Instance) (xs : List StoredOrigin) (paths : List (List ℕ)) (k : ℕ) (o : StoredOrigin) (p : List ℕ) → paths ≡ map (path_of t) (map origin_plain xs) → k < length xs → o ≡ get_or xs k o
+    → p ≡ get_or paths k p → p ≡ path_of t (origin_plain o)
+path_at t xs paths k o p e h a g = both_at (λ m. path_of t (origin_plain m)) xs paths k o p (e ∙ map_map (path_of t) origin_plain xs) h a g
 
 -- all items
 pub all_noted : (t : List Instance) (xs : List StoredOrigin) (k : ℕ) (ns : ItemNumbers) → length xs ≤ k → AreNumbers t (map origin_plain (take k xs)) ns → AreNumbers t (map origin_plain xs) ns
@@ -66,10 +65,10 @@ variable_noted t kind xs k o p old new h a f n w x =
     (n x ∙ ap (λ z. if is_none (row_named old x) && (is_variable_as kind (content_plain o.content) && bytes_eq z x) then Some k else row_named old x) f)
 
 -- one item more
-pub item_noted : (t : List Instance) (xs : List StoredOrigin) (items : List FlatItem) (k : ℕ) (o : StoredOrigin) (m : FlatItem) (q : List ℕ) (old new : ItemNumbers) → map (λ m. m.name) items ≡ map (path_of t) (map origin_plain xs)
-    → k < length xs → o ≡ get_or xs k o → m ≡ get_or items k m → q ≡ m.name → IsItemNoted (origin_plain o) q k old new → AreNumbers t (map origin_plain (take k xs)) old → AreNumbers t (map origin_plain (take (k + 1) xs)) new
-item_noted t xs items k o m q old new e h a g i n w =
-    let f : q ≡ path_of t (origin_plain o) = i ∙ path_at t xs items k o m e h a g in
+pub item_noted : (t : List Instance) (xs : List StoredOrigin) (paths : List (List ℕ)) (k : ℕ) (o : StoredOrigin) (p q : List ℕ) (old new : ItemNumbers) → paths ≡ map (path_of t) (map origin_plain xs)
+    → k < length xs → o ≡ get_or xs k o → p ≡ get_or paths k p → q ≡ p → IsItemNoted (origin_plain o) q k old new → AreNumbers t (map origin_plain (take k xs)) old → AreNumbers t (map origin_plain (take (k + 1) xs)) new
+item_noted t xs paths k o p q old new e h a g i n w =
+    let f : q ≡ path_of t (origin_plain o) = i ∙ path_at t xs paths k o p e h a g in
     record {
       bodies = λ j x. with_item origin_plain (is_body_at j x) xs k (length xs) o (row_in old.bodies j x) (row_in new.bodies j x) refl h a (w.bodies j x) (n.bodies j x);
       paths = record {

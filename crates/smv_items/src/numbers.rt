@@ -9,7 +9,6 @@ ghost use Rattle.smv_instances.specs.View.{instance_plain, found_plain};
 ghost use Rattle.smv_items.specs.FlatItems.{is_variable_as, path_of, leaf_found, item_leaf, symbol_leaf, origins_of, symbols_of};
 ghost use Rattle.smv_items.specs.FlatOrigins.{origin_plain, content_plain, input_count, leaf_plain, number_kept, number_as, path_number, AreInstanceNumbers, AreNumbers, IsNoted, ArePathsNoted, IsItemNoted};
 
-use crate::items::FlatItem;
 use crate::origins::{Content, Origin, dotted_path};
 use crate::symbols::Symbols;
 use name_maps::{
@@ -19,7 +18,7 @@ use name_maps::{
 use smv_instances::{Table, Target};
 use smv_text::VarKind;
 use std::alloc::Global;
-use text_core::NoMemory;
+use text_core::{Name, NoMemory};
 
 /// The numbers of bodies, by instance and name.
 pub type Bodies<'a> = InstanceRows<'a, usize>;
@@ -223,18 +222,18 @@ fn no_numbers<'a, 'n>(
     })
 }
 
-/// Returns the numbers of all items, given their origins.
+/// Returns the numbers of all items, given their origins and their dotted paths.
 pub fn numbers_of<'a, 'n>(
     alloc: Global,
     origins: &[Origin<'a>],
-    items: &'n [FlatItem],
+    paths: &'n [Name],
 ) -> Result<ItemNumbers<'a, 'n>, NoMemory>
-    requires { length items.now ≡ length origins.now }
-    ensures { (t : List Specified) → map (λ m. m.name) items.now ≡ map (path_of t) (map origin_plain origins.now) → IfOk result (λ ns. AreNumbers t (map origin_plain origins.now) ns) }
+    requires { length paths.now ≡ length origins.now }
+    ensures { (t : List Specified) → paths.now ≡ map (path_of t) (map origin_plain origins.now) → IfOk result (λ ns. AreNumbers t (map origin_plain origins.now) ns) }
 {
     let mut numbers = no_numbers(alloc, origins)?;
     for (k, origin) in origins.iter().enumerate() {
-        note_item(&mut numbers, origin, items[k].name.bytes(), k)?;
+        note_item(&mut numbers, origin, paths[k].bytes(), k)?;
     }
     Ok(numbers)
 }
@@ -290,12 +289,12 @@ fn variable_number<'a>(
 
 /// Returns the translation of a path with this target.
 #[tactic(auto, using(crate::proofs::NumberLemmas::variable_few, crate::proofs::NumberLemmas::body_few, crate::proofs::NumberLemmas::symbol_few))]
-pub fn leaf_of<'a, 'n>(
+pub fn leaf_of<'a, 'n, 'p>(
     alloc: Global,
     table: &Table<'a>,
     numbers: &ItemNumbers<'a, 'n>,
     symbols: &Symbols,
-    target: Target<'a>,
+    target: Target<'p>,
 ) -> Result<Leaf, NoMemory>
     requires numbers { AreNumbers (map instance_plain table.now) (origins_of (map instance_plain table.now)) numbers.now }
     requires symbols { symbols.now ≡ symbols_of (map instance_plain table.now) }

@@ -4,7 +4,7 @@ ghost use Rattle.smv_text.specs.Tree.{trees_of};
 ghost use Rattle.smv_text.specs.View.{plain, plain_item, plain_definition, plain_element, plain_domain};
 ghost use Rattle.smv_meaning.specs.Names.{dotted_at};
 ghost use Rattle.smv_instances.specs.View.{instance_plain};
-ghost use Rattle.smv_items.specs.FlatItems.{with_content, actual_content, actual_items, domain_content, variable_item, definition_item, element_items, items_here, origins_of};
+ghost use Rattle.smv_items.specs.FlatItems.{with_content, actual_content, actual_items, domain_content, variable_item, definition_item, element_items, items_here, origins_of, path_of};
 ghost use Rattle.smv_items.specs.FlatOrigins.{origin_plain, content_or_none, own_count};
 
 use smv_instances::{Instance, Table, path_below};
@@ -187,6 +187,23 @@ pub fn own_count(origins: &[Origin], i: usize) -> usize
         }
     }
     origins.len()
+}
+
+/// Returns the dotted paths of these items.
+#[tactic(auto, using(smv_meaning::specs::laws::Lists::front_is, smv_meaning::specs::laws::Lists::end_is, text_core::proofs::ListLaws::joined_on, text_core::proofs::ListLaws::append_none))]
+pub fn dotted_paths<'a>(
+    alloc: Global,
+    table: &Table<'a>,
+    origins: &[Origin<'a>],
+) -> Result<Vec<Name>, NoMemory>
+    ensures { IfOk result (λ ps. ps.items ≡ map (path_of (map instance_plain table.now)) (map origin_plain origins.now)) }
+{
+    let mut paths = Vec::with_capacity(alloc, origins.len())?;
+    for origin in origins {
+        let path = dotted_path(alloc, table, origin.instance as usize, origin.name)?;
+        paths.push(path)?;
+    }
+    Ok(paths)
 }
 
 /// Returns the dotted path of a name in the instance with this number.

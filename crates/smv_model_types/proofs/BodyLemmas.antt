@@ -1,40 +1,19 @@
--- Bodies of definitions and actuals: one with a check that fails has no type, and an actual that is no path is a body. What an
--- expression comes to hangs on what its paths are.
-use Rattle.std.proofs.Common.{◌≡◌, true, false, List, [], ◌∷◌, Option, None, option_map, Result, Ok, Err, refl, sym, subst}
-use Rattle.std.specs.Prelude.{IfOk, IfErr}
+-- Bodies of definitions and actuals: one with a check that fails has no type, and an actual that is no path is a body.
+use Rattle.std.proofs.Common.{◌≡◌, true, false, None, Result, refl, sym, subst}
 use Rattle.text_core.specs.declared.end.End.{End}
-use Rattle.text_core.specs.declared.end.End.TheVariants.{Bad, NoMemory}
+use Rattle.text_core.specs.declared.end.End.TheVariants.{Bad}
 use Rattle.text_core.specs.declared.place.Refusal.{Refusal}
 use Rattle.smv_text.specs.declared.tree.Path.{Path}
 use Rattle.smv_text.specs.Tree.{Tree, truth, number, literal, name, prefix, chain, choice, cases, select, call, next, set, range}
-use Rattle.smv_meaning.specs.Checks.{first_failing, Position, Named, Typing, typing, IsBad}
-use Rattle.smv_meaning.specs.Expressions.{paths_of}
-use Rattle.smv_meaning.specs.Orders.{RefusedHaveNoType, SameOn, TypesHangOnPaths}
-use Rattle.smv_intervals.specs.declared.types.Ty.{Ty}
-use Rattle.smv_intervals.specs.View.{seen}
+use Rattle.smv_meaning.specs.Checks.{first_failing, Position, Named, typing, IsBad}
+use Rattle.smv_meaning.specs.Orders.{RefusedHaveNoType}
 use Rattle.smv_meaning.specs.Naming.{in_body}
 use Rattle.smv_meaning.specs.Phases.{actual_typing}
 use Rattle.smv_names.specs.Outcome.{Settles}
-use Rattle.smv_model_types.specs.Outcome.{Finds, is_path}
+use Rattle.smv_model_types.specs.Outcome.{is_path}
 
 pub bad_has_none : RefusedHaveNoType → (names : Path → Named) (at : Position) (e : Tree) (end : End) (why : Refusal) → end ≡ Bad why → IsBad end (first_failing (typing names at e).checks) → None ≡ (typing names at e).type
 bad_has_none law names at e end why s h = sym (law names at e why (subst (λ x. IsBad x (first_failing (typing names at e).checks)) s h))
-
-same_on : (names others : Path → Named) → ((q : Path) → names q ≡ others q) → (qs : List Path) → SameOn names others qs
-same_on names others h [] = tt
-same_on names others h (q ∷ qs) = (h q, same_on names others h qs)
-
-found : (r : Result (Option Ty) End) (t : Typing) → IfOk r (λ o. first_failing t.checks ≡ None) → IfOk r (λ o. option_map seen o ≡ t.type) → IfErr r (λ e. IsBad e (first_failing t.checks)) → Finds r t
-found (Ok o) t passes typed refused = (passes, typed)
-found (Err (Bad why)) t passes typed refused = refused
-found (Err NoMemory) t passes typed refused = tt
-
--- what an expression comes to by names that mean the same
-pub found_alike : TypesHangOnPaths → (names others : Path → Named) (at : Position) (e : Tree) (r : Result (Option Ty) End) → ((q : Path) → names q ≡ others q)
-    → IfOk r (λ o. first_failing (typing names at e).checks ≡ None) → IfOk r (λ o. option_map seen o ≡ (typing names at e).type) → IfErr r (λ end. IsBad end (first_failing (typing names at e).checks))
-    → Finds r (typing others at e)
-found_alike hang names others at e r same passes typed refused =
-    subst (Finds r) (hang names others at e (same_on names others same (paths_of e []))) (found r (typing names at e) passes typed refused)
 
 pub path_actual : (names : Path → Named) (e : Tree) → is_path e ≡ true → first_failing (actual_typing names e) ≡ None
 path_actual names (name p x) h = refl

@@ -205,7 +205,7 @@ names_right t entries ks s r i path h =
 
 -- ---- bodies
 
-paths_right : (t : List Instance) (entries : Entries) (ks : List Body) → Settled t → ((i : ℕ) (path : Path) → types_in true t i path ≡ meaning t (found_in t i path)) → Holds t entries ks
+pub paths_right : (t : List Instance) (entries : Entries) (ks : List Body) → Settled t → ((i : ℕ) (path : Path) → types_in true t i path ≡ meaning t (found_in t i path)) → Holds t entries ks
     → (j : ℕ) (qs : List Path) → list_all (is_listed ks) (flat_map (λ q. path_bodies t (looked t) j q.names) qs) ≡ true → SameOn (entries_names t entries j) (types_in true t j) qs
 paths_right t entries ks s types r j [] h = tt
 paths_right t entries ks s types r j (q ∷ qs) h =

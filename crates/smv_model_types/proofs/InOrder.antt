@@ -6,13 +6,16 @@ use Rattle.std.proofs.lemmas.Bool.{ltb-true}
 use Rattle.std.proofs.lemmas.List.{length-map, get_or-map, map-append, take_more, drop_more, take-append-drop}
 use Rattle.smv_references.specs.declared.bodies.Body.{Body as Kept}
 use Rattle.smv_meaning.specs.Instances.{Instance}
-use Rattle.smv_meaning.specs.Phases.{refers}
+use Rattle.smv_meaning.specs.Expressions.{paths_of}
+use Rattle.smv_meaning.specs.Names.{Local}
+use Rattle.smv_meaning.specs.Phases.{refers, referred}
 use Rattle.smv_meaning.specs.Settled.{NamesSettle, TypesSettle}
 use Rattle.smv_meaning.specs.Bodies.{Placed, placed_bodies, bodies_of, references_of, reference_graph, IsBodyOrder}
 use Rattle.smv_meaning.specs.Orders.{numbered, is_listed, ReferencesComeBefore, TypesHangOnPaths}
 use Rattle.smv_references.specs.View.{body_plain, key_of}
 use Rattle.smv_model_types.specs.Entries.{Entries, IsPut}
-use Rattle.smv_model_types.proofs.Filling.{both_true, Holds, one_more}
+use Rattle.smv_model_types.specs.Kept.{HasReferred}
+use Rattle.smv_model_types.proofs.Filling.{both_true, looked, Holds, paths_right, one_more}
 
 each_low : (n : ℕ) (xs : List ℕ) (k d : ℕ) → list_all (λ x. nat_lt x n) xs ≡ true → k < length xs → slice_index_or xs k d < n
 each_low n [] k d h l = absurd (omega (arith, l))
@@ -50,3 +53,13 @@ next_put t fs order k n f old new e o names types hang before l is fis b h =
     ap (map (numbered t)) (take_more order k n l ∙ ap (λ m. take k order ++ m ∷ []) (sym is)) ∙ map-append (numbered t) (take k order) (n ∷ []) ∙ ap (λ q. map (numbered t) (take k order) ++ q ∷ []) key in
     subst (Holds t new) (sym more)
     (one_more t old new (key_of f) (map (numbered t) (take k order)) o.acyclic names types hang (ap (λ q. list_all (is_listed (map (numbered t) (take k order))) (refers t q)) (sym key) ∙ refs) b h)
+
+-- what the next of the order refers to is in the entries
+pub next_referred : (t : List Instance) (fs : List Kept) (order : List ℕ) (k n : ℕ) (f : Kept) (entries : Entries) → map body_plain fs ≡ placed_bodies t → IsBodyOrder t order → NamesSettle → TypesSettle → ReferencesComeBefore
+    → k < length order → n ≡ slice_index_or order k n → f ≡ slice_index_or fs n f → Holds t entries (map (numbered t) (take k order)) → HasReferred t entries (key_of f)
+next_referred t fs order k n f entries b o names types before l is fis h j e at =
+    let ks = map (numbered t) (take k order) in
+    let key : numbered t n ≡ key_of f = key_is t fs n f b (number_low t fs order k n b o l is) fis in
+    let refs : list_all (is_listed ks) (refers t (key_of f)) ≡ true = ap (λ q. list_all (is_listed ks) (refers t q)) (sym key) ∙ before t (take k order) (drop (k + 1) order) n (subst (IsBodyOrder t) (parted order k n l is) o) in
+    paths_right t entries ks (names t o.acyclic).1 (types t o.acyclic true) h j (paths_of e [])
+    (subst (λ (m : Local). list_all (is_listed ks) (referred t (looked t) m) ≡ true) at refs)

@@ -1,8 +1,16 @@
 pub mod Lists
 pub mod Composing
-pub mod Paths
 pub mod DomainLemmas
 pub mod Filling
 pub mod InOrder
 pub mod BodyLemmas
 pub mod Targets
+pub mod Entered
+pub mod BuildingLaws
+pub mod FlatSame
+pub mod KeptLemmas
+pub mod Ready
+pub mod Walks
+pub mod Actuals
+pub mod Parameters
+pub mod Instances

@@ -1,3 +1,4 @@
 pub mod Entries
 pub mod Outcome
-pub mod Targets
+pub mod Kept
+pub mod Building

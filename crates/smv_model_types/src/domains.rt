@@ -8,11 +8,9 @@ ghost use Rattle.smv_meaning.specs.Meaning.{is_input};
 ghost use Rattle.smv_meaning.specs.Naming.{named_found, unnamed};
 ghost use Rattle.smv_intervals.specs.View.{seen};
 ghost use Rattle.smv_types.specs.View.{named_seen};
-ghost use Rattle.smv_names.specs.Outcome.{Settles};
 ghost use Rattle.smv_model_types.specs.Outcome.{IsDeclared};
 
 use smv_intervals::{Ty, hull, type_within_limit};
-use smv_names::NamesEnd;
 use smv_text::{Domain, Member, Members, VarKind};
 use smv_types::Named;
 use text_core::kinds::smv;
@@ -61,7 +59,7 @@ fn hull_of(members: &Members) -> Ty
 }
 
 // The type, or the kind of the first failing check.
-fn declared(domain: &Domain) -> Result<Option<Ty>, Kind>
+pub(crate) fn declared(domain: &Domain) -> Result<Option<Ty>, Kind>
     ensures { IsDeclared result (plain_domain domain.now) }
 {
     match domain {
@@ -92,21 +90,11 @@ fn declared(domain: &Domain) -> Result<Option<Ty>, Kind>
     }
 }
 
-/// Checks a declared type.
-pub(crate) fn domain_checked(place: Place, domain: &Domain) -> Result<(), NamesEnd>
-    ensures { Settles result (domain_checks place (plain_domain domain.now)) }
-{
-    match declared(domain) {
-        Ok(_) => Ok(()),
-        Err(kind) => Err(NamesEnd::Bad(Refusal { kind, place })),
-    }
-}
-
 /// Returns the type of a variable with this declared type.
 ///
 /// None for an instance, or where a check of the declared type fails.
 #[tactic(auto, using(crate::proofs::DomainLemmas::typed, crate::proofs::DomainLemmas::untyped))]
-pub fn variable_type(domain: &Domain) -> Option<Ty>
+pub(crate) fn variable_type(domain: &Domain) -> Option<Ty>
     ensures { option_map seen result ≡ variable_type (plain_domain domain.now) }
 {
     match declared(domain) {

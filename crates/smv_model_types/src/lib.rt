@@ -1,14 +1,15 @@
-//! The types of SMV models: the ordered checks of types and positions over a whole model, and the properties of its
-//! names.
+//! The types of SMV models: the ordered checks of types and positions over a whole model, the properties of its names,
+//! and the flat form of its expressions, each made as it is checked.
 #![tactic(auto)]
 
 mod bodies;
-mod checks;
+mod building;
+mod context;
 mod domains;
-mod elements;
+mod kept;
 mod names;
 mod types;
 mod variables;
 
-pub use domains::variable_type;
-pub use types::{Types, types_checked};
+pub use building::Built;
+pub use types::types_checked;

@@ -3,18 +3,17 @@ ghost use Rattle.std.specs.Prelude.{◌≡◌, ◌∷◌, [], true, map, Some};
 ghost use Rattle.smv_text.specs.View.{plain_domain};
 ghost use Rattle.smv_meaning.specs.Names.{local, look, steps_of, found_in};
 ghost use Rattle.smv_meaning.specs.Naming.{unnamed};
-ghost use Rattle.smv_meaning.specs.Settled.{types_in};
 ghost use Rattle.smv_instances.specs.View.{instance_plain, local_plain, found_plain};
 ghost use Rattle.smv_instances.specs.Leads.{is_alias};
 ghost use Rattle.smv_types.specs.View.{named_seen};
-ghost use Rattle.smv_model_types.specs.Entries.{entries_seen, found_or, entry_or, or_unnamed, variable_or, named_instance, named_symbol, entries_single, entries_walk, entries_names, HasEach};
+ghost use Rattle.smv_model_types.specs.Entries.{entries_seen, found_or, entry_or, or_unnamed, variable_or, named_instance, named_symbol, entries_single, entries_walk, entries_names};
 
 use crate::domains::variable_named;
 use name_maps::{InstanceRows, row_value_in};
 use smv_instances::{Known, Table, Target};
 use smv_intervals::Ty;
 use smv_text::{Domain, Path, VarKind};
-use smv_types::{Named, Scope};
+use smv_types::Named;
 use text_core::Names;
 
 /// The properties of enumerations, definitions and actuals, by instance and name.
@@ -220,9 +219,8 @@ pub(crate) fn target_named<'a>(
     path: &Path,
     target: Target,
 ) -> Named
-    requires entries { HasEach (map instance_plain table.now) (entries_seen entries.now) }
     requires target { found_plain (map instance_plain table.now) target ≡ found_in (map instance_plain table.now) i path.now }
-    ensures { named_seen result ≡ types_in true (map instance_plain table.now) i path.now }
+    ensures { named_seen result ≡ entries_names (map instance_plain table.now) (entries_seen entries.now) i path.now }
 {
     match target {
         Target::Variable(_, _, kind, domain) => {
@@ -233,27 +231,5 @@ pub(crate) fn target_named<'a>(
         Target::Symbol(_) => symbol(),
         Target::Cyclic => unnamed(),
         Target::Missing => unnamed(),
-    }
-}
-
-/// The names of an instance, by the entries.
-#[derive(Drop)]
-pub(crate) struct Reader<'s, 'a> {
-    pub(crate) table: &'s Table<'a>,
-    pub(crate) entries: &'s Entries<'a>,
-    pub(crate) instance: usize,
-}
-
-impl<'s, 'a> Scope for Reader<'s, 'a> {
-    ghost use Rattle.std.specs.Prelude.{true, map};
-    ghost use Rattle.smv_instances.specs.View.{instance_plain};
-    ghost use Rattle.smv_model_types.specs.Entries.{entries_seen, entries_names};
-
-    ghost names = { λ s. entries_names (map instance_plain s.table.now) (entries_seen s.entries.now) s.instance };
-
-    ghost knows = { λ s path. true };
-
-    fn named(&self, path: &Path) -> Named {
-        path_named(self.table, self.entries, self.instance, path)
     }
 }

@@ -26,8 +26,8 @@ pub(crate) fn check(kind: Kind, place: Place, test: bool) -> Result<(), Refusal>
     }
 }
 
-// Converts the result of a node's checks.
-pub(crate) fn answered(answer: Result<Option<Ty>, Refusal>) -> Result<Option<Ty>, CheckEnd>
+/// Converts the result of a node's checks.
+pub fn answered(answer: Result<Option<Ty>, Refusal>) -> Result<Option<Ty>, CheckEnd>
     ensures { (t : Typing) → Answers answer t → Ends result t }
 {
     match answer {

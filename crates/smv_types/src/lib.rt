@@ -1,4 +1,4 @@
-//! The ordered checks of SMV expressions, and their types.
+//! The ordered checks of the nodes of SMV expressions, and their types.
 #![tactic(auto)]
 
 mod arguments;
@@ -9,9 +9,7 @@ pub mod lists;
 mod names;
 pub mod nodes;
 mod positions;
-mod typing;
 
-pub use ends::CheckEnd;
+pub use ends::{CheckEnd, answered};
 pub use names::{Named, Scope};
 pub use positions::{Permissions, Position};
-pub use typing::type_of;

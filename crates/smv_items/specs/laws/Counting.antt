@@ -381,21 +381,29 @@ all_last cs ds h = (both_true (passes cs) (passes ds) (sym (list_all-append (λ 
 pub all_first : (cs ds : List Check) → passes (cs ++ ds) ≡ true → passes cs ≡ true
 all_first cs ds h = (both_true (passes cs) (passes ds) (sym (list_all-append (λ (c : Check). c.holds) cs ds) ∙ h)).0
 
--- an accepted model is not too heavy
-pub weight_fits : (source : PlainSource) (needed : ℕ) → IsAccepted source needed → weight_of source ≤ most_tokens
-weight_fits source needed h =
+-- a model whose sizes are checked is not too heavy
+sized_fits : (source : PlainSource) → passes (size_checks source) ≡ true → weight_of source ≤ most_tokens
+sized_fits source h =
+    let t = instances_of source in
+    leb-true (weight_of source) most_tokens (both_true (nat_le (weight_of source) most_tokens) (passes (symbol_checks t (slice_get t 0))) h).0
+
+-- and the sizes of an accepted model are
+sizes_hold : (source : PlainSource) (needed : ℕ) → IsAccepted source needed → passes (size_checks source) ≡ true
+sizes_hold source needed h =
     let t = instances_of source in
     let last = check 27 source.end (nat_lt needed (length (invariants_in t))) ∷ [] in
     let before = module_checks source ++ declaration_checks source.modules t 0 1 t in
     let a = all_first (before ++ size_checks source ++ later_checks t) last h in
     let b = all_first (before ++ size_checks source) (later_checks t) a in
-    let c = all_last before (size_checks source) b in
-    leb-true (weight_of source) most_tokens (both_true (nat_le (weight_of source) most_tokens) (passes (symbol_checks t (slice_get t 0))) c).0
+    all_last before (size_checks source) b
 
-pub are_few : (source : PlainSource) (end : Place) (xs : List Token) → SpellsSource source end xs → (needed : ℕ) → IsAccepted source needed → AreFew (instances_of source)
-are_few source end xs s needed h =
+pub weight_fits : (source : PlainSource) (needed : ℕ) → IsAccepted source needed → weight_of source ≤ most_tokens
+weight_fits source needed h = sized_fits source (sizes_hold source needed h)
+
+pub are_few : (source : PlainSource) (end : Place) (xs : List Token) → SpellsSource source end xs → passes (size_checks source) ≡ true → AreFew (instances_of source)
+are_few source end xs s h =
     let t = instances_of source in
-    let w = weight_fits source needed h in
+    let w = sized_fits source h in
     let c = charges_weigh source xs s.0 in
     let n = instances_charged t in
     let m = over_length items_here items_charged 0 t in

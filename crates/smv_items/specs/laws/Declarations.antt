@@ -64,7 +64,8 @@ declared_new ms above path seen met (d ∷ ds) h =
       differ = (all_weaker (λ x. Lacks (d.name ∷ seen) x) (λ x. x ≢ d.name) (not_seen d.name seen) (map name_of ds) r.unseen, r.differ);
     }
 
-all_declared : (ms : List PlainModule) (all : List Instance) (i met : ℕ) (t : List Instance) → passes (declaration_checks ms all i met t) ≡ true → AllByRecursion DiffersInside t
+-- the names that each instance declares differ where the checks of declarations hold
+pub all_declared : (ms : List PlainModule) (all : List Instance) (i met : ℕ) (t : List Instance) → passes (declaration_checks ms all i met t) ≡ true → AllByRecursion DiffersInside t
 all_declared ms all i met [] h = tt
 all_declared ms all i met (at ∷ t) h =
     let here = declared_checks ms (modules_above (length all) all (Some i)) at.path [] met (declared_in at.module) in

@@ -4,7 +4,7 @@ use Rattle.smv_meaning.specs.Phases.{element_invariants, invariants_in, over_ins
 use Rattle.smv_instances.specs.View.{instance_plain}
 use Rattle.smv_flatten.proofs.counts.invariant_count.Given as goal
 
-abbrev pub invariant-loop-i : goal.invariant-loop-i
-invariant-loop-i l =
-    l.count + length (over_instances (λ i at. flat_map (element_invariants i) at.module.elements) l.i (map instance_plain (drop l.i l.table)))
+abbrev pub invariant-loop-part : goal.invariant-loop-part
+invariant-loop-part l =
+    l.count + length (over_instances (λ i at. flat_map (element_invariants i) at.module.elements) l.part-index (map instance_plain (drop l.part-index l.part-items)))
     ≡ length (invariants_in (map instance_plain l.table))

@@ -5,4 +5,4 @@ use Rattle.smv_items.specs.FlatOrigins.{origin_plain, AreNumbers}
 use Rattle.smv_items.proofs.numbers.numbers_of.Given as goal
 
 abbrev pub invariant-loop-k : goal.invariant-loop-k
-invariant-loop-k l = (t : List Instance) → map (λ m. m.name) l.items ≡ map (path_of t) (map origin_plain l.origins) → AreNumbers t (map origin_plain (take l.k l.origins)) l.numbers
+invariant-loop-k l = (t : List Instance) → l.paths ≡ map (path_of t) (map origin_plain l.origins) → AreNumbers t (map origin_plain (take l.k l.origins)) l.numbers

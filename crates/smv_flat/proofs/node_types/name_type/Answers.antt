@@ -1,4 +1,0 @@
-use Rattle.smv_flat.proofs.node_types.name_type.Goals as goal
-
-pub returns : goal.returns
-returns c = c.settled.ensures _ _ c.name.ensures

@@ -1,1 +1,0 @@
--- All paths are known.

@@ -1,0 +1,44 @@
+use Rattle.std.proofs.Common.{rules, ◌≡◌, true, false, Option, Some, Ok, [], ◌∷◌, map, option_map, ap, sym, subst, ◌∙◌}
+use Rattle.smv_text.specs.View.{plain}
+use Rattle.smv_meaning.specs.Types.{ExprType, type_same}
+use Rattle.smv_meaning.specs.Checks.{check, typing, first_failing, on_types, IsBad, Named, Position}
+use Rattle.smv_meaning.specs.Phases.{place_of, in_assignment}
+use Rattle.smv_meaning.specs.Settled.{types_in}
+use Rattle.smv_meaning.specs.laws.Composing.{ends}
+use Rattle.smv_instances.specs.View.{instance_plain}
+use Rattle.smv_intervals.specs.View.{seen}
+use Rattle.smv_types.specs.Outcome.{outcome}
+use Rattle.smv_model_types.proofs.BuildingLaws.{fit_fails, fit_passes}
+use Rattle.smv_model_types.proofs.building.add_assignment.Goals as goal
+
+pub returns-in_err-value-clause-checks : goal.returns-in_err-value-clause-checks
+returns-in_err-value-clause-checks c =
+    let names = types_in true (map instance_plain c.args.context.now.model.now.table.now) c.args.i in
+    let body = plain c.args.assignment.now.body in
+    let a = typing names (in_assignment c.args.assignment.now.when) body in
+    let bad = subst (λ (at : Position). IsBad c.in_err-value.field-0.0 (first_failing (typing names at body).checks)) c.position_of-position.ensures c.in_err-value.ensures in
+    let stop = ends c.in_err-value.field-0.0 a.checks (check 16 (place_of body) (on_types (names c.args.assignment.now.target).type a.type type_same) ∷ []) bad in
+    search (rules, c.from_residual-in_err-value.ensures, stop)
+
+pub returns-then-not-are_same-clause-checks : goal.returns-then-not-are_same-clause-checks
+returns-then-not-are_same-clause-checks c =
+    let names = types_in true (map instance_plain c.args.context.now.model.now.table.now) c.args.i in
+    let body = plain c.args.assignment.now.body in
+    let a = typing names (in_assignment c.args.assignment.now.when) body in
+    let target = (names c.args.assignment.now.target).type in
+    let o = option_map seen c.in_ok-value.value.ty in
+    let told = subst (λ (at : Position). outcome (typing names at body) ≡ Ok o) c.position_of-position.ensures c.in_ok-value.ensures.0 in
+    fit_fails a (place_of body) o (λ (t : Option ExprType). on_types target t type_same) told
+    (ap (λ t. on_types t o type_same) (sym (ap (λ (n : Named). n.type) c.in_ok-target.ensures.named)) ∙ sym c.if-not-are_same.ensures)
+    ∙ ap (λ p. Some (check 16 p false).refusal) (sym c.place.ensures)
+
+pub returns-clause-checks : goal.returns-clause-checks
+returns-clause-checks c =
+    let names = types_in true (map instance_plain c.args.context.now.model.now.table.now) c.args.i in
+    let body = plain c.args.assignment.now.body in
+    let a = typing names (in_assignment c.args.assignment.now.when) body in
+    let target = (names c.args.assignment.now.target).type in
+    let o = option_map seen c.in_ok-value.value.ty in
+    let told = subst (λ (at : Position). outcome (typing names at body) ≡ Ok o) c.position_of-position.ensures c.in_ok-value.ensures.0 in
+    fit_passes a (place_of body) o (λ (t : Option ExprType). on_types target t type_same) told
+    (ap (λ t. on_types t o type_same) (sym (ap (λ (n : Named). n.type) c.in_ok-target.ensures.named)) ∙ sym c.are_same.ensures ∙ c.if-not-are_same.false)

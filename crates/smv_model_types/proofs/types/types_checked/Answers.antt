@@ -1,0 +1,30 @@
+use Rattle.std.proofs.Common.{◌+◌, List, length, map, drop, refl, sym, subst}
+use Rattle.smv_meaning.specs.laws.Lists.{front_is}
+use Rattle.smv_instances.specs.View.{instance_plain}
+use Rattle.smv_instances.specs.declared.instances.Instance.{Instance}
+use Rattle.smv_model_types.specs.declared.building.Building.{Building}
+use Rattle.smv_model_types.proofs.Instances.{Passes, passes_start, passes_ready, passes_step}
+use Rattle.smv_model_types.proofs.types.types_checked.Goals as goal
+
+pub loop-i-init : goal.loop-i-init
+loop-i-init c =
+    let t = map instance_plain c.args.table.now in
+    let built : Building = record { forms = c.new.result; rest = c.new-2.result; types = c.new-3.result; kept = c.in_ok-typed.typed.kept } in
+    subst (λ (parts : List Instance). Passes t 0 (map instance_plain parts) built) (sym c.list-part-items.ensures)
+    (passes_start t built c.new-3.ensures.items c.new.ensures.items c.new-2.ensures.items c.in_ok-typed.ensures.kept)
+
+pub add_instance-requires-clause-ready : goal.add_instance-requires-clause-ready
+add_instance-requires-clause-ready c =
+    let t = map instance_plain c.args.table.now in
+    let parts = c.list-part-items.result.now in
+    let front = front_is parts c.loop-i.i (length parts) c.part-item.result refl c.loop-i-test.true c.part-item.is in
+    passes_ready t c.loop-i.i (instance_plain c.part-item.result) (map instance_plain (drop (c.loop-i.i + 1) parts)) c.loop-i.built
+    (subst (λ (xs : List Instance). Passes t c.loop-i.i (map instance_plain xs) c.loop-i.built) front c.loop-i.invariant)
+
+pub loop-i-preserved : goal.loop-i-preserved
+loop-i-preserved c =
+    let t = map instance_plain c.args.table.now in
+    let parts = c.list-part-items.result.now in
+    let front = front_is parts c.loop-i.i (length parts) c.part-item.result refl c.loop-i-test.true c.part-item.is in
+    passes_step t c.loop-i.i (instance_plain c.part-item.result) (map instance_plain (drop (c.loop-i.i + 1) parts)) c.loop-i.built c.add_instance.new.built
+    (subst (λ (xs : List Instance). Passes t c.loop-i.i (map instance_plain xs) c.loop-i.built) front c.loop-i.invariant) c.in_ok-add_instance.ensures.checks c.in_ok-add_instance.ensures.adds
