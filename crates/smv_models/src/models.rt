@@ -16,10 +16,8 @@ use witness_lift::SmvChain;
 /// The most bytes of an SMV model.
 pub const SMV_LIMIT: usize = 1_048_576;
 
-/// Parses the bytes to a model.
-///
-/// The tokens are dropped before it returns. `Err` is the first refusal of the lexer or the parser, or out of memory.
-pub fn model_of(alloc: Global, bytes: &[u8]) -> Result<Source, End>
+// Parses the bytes to a model. `Err` is the first refusal of the lexer or the parser, or out of memory.
+fn model_of(alloc: Global, bytes: &[u8]) -> Result<Source, End>
     requires { length bytes.now ≤ most_smv_bytes }
     ensures model { IfOk result (λ model. IsModel bytes.now (plain_source model)) }
     ensures refused { IfErr result (IsTextEnd bytes.now) }
