@@ -16,11 +16,11 @@ use Rattle.smv_text.specs.declared.tree.Branch.{Branch}
 use Rattle.smv_text.specs.declared.tree.Expr.{Expr, the_lemmas as expr_lemmas}
 use Rattle.smv_text.specs.declared.tree.Shape.TheVariants as OfExpr
 use Rattle.word_core.specs.Words.{BitVector}
-use Rattle.smv_text.specs.Tree.{Tree, truth, number, literal, range, Links, no_links, link, Branches, links_of, branches_of, trees_of}
+use Rattle.smv_text.specs.Tree.{Tree, truth, number, literal, range, Links, no_links, link, links_of, branches_of, trees_of}
 use Rattle.smv_text.specs.View.{plain, plain_link, plain_branch}
 use Rattle.smv_meaning.specs.Expressions.{is_implies, are_implies, is_from_right}
 use Rattle.smv_meaning.specs.Types.{ExprType}
-use Rattle.smv_meaning.specs.Checks.{Position, Named, Typing, single, across, behind, are_unions, first_failing, typing, IsBad}
+use Rattle.smv_meaning.specs.Checks.{Position, Named, Typing, single, across, behind, first_failing, IsBad}
 use Rattle.smv_meaning.specs.laws.Booleans.{both_true, absurd_bool}
 use Rattle.smv_meaning.specs.laws.Plain.{plain_branch-at, plain_link-at}
 use Rattle.smv_intervals.specs.declared.types.Ty.{Ty}

@@ -287,8 +287,8 @@ fn operands_typed<C: Naming>(
     ensures links { IfOk result (λ v. flat_links_of (map plain_flat_link v.links.items) ≡ links_at (C.names scope.now) (C.leaves scope.now) (permissions_seen at) under (links_of (map plain_link links.now))) }
     ensures refused { IfErr result (λ e. IsBad e (first_failing (link_checks (C.names scope.now) (permissions_seen at) (links_of (map plain_link links.now))))) }
 {
-    let mut operands = Vec::new(alloc);
-    let mut types = Vec::new(alloc);
+    let mut operands = Vec::with_capacity(alloc, links.len())?;
+    let mut types = Vec::with_capacity(alloc, links.len() + 1)?;
     types.push(first)?;
     for link in links {
         let x = typed(alloc, scope, &link.operand, at, under)?;
@@ -316,7 +316,7 @@ fn fronts_typed<C: Naming>(
     ensures types { Ends (mapped type_of_rest result) (linked (C.names scope.now) (permissions_seen at) place (passed (option_map seen first)) (links_of (map plain_link links.now))) }
     ensures links { IfOk result (λ r. flat_links_of (map plain_flat_link r.links.items) ≡ flat_links (C.names scope.now) (C.leaves scope.now) (permissions_seen at) under (links_of (map plain_link links.now))) }
 {
-    let mut operands = Vec::new(alloc);
+    let mut operands = Vec::with_capacity(alloc, links.len())?;
     let mut whole = first;
     for link in links {
         let standing = operand_standing(link.op, at);
@@ -381,8 +381,8 @@ fn parts_typed<C: Naming>(
     ensures refused { IfErr result (λ e. IsBad e (first_failing (tree_checks (C.names scope.now) (permissions_seen at) (trees_of (map plain parts.now))))) }
 {
     let mut all = Parts {
-        exprs: Vec::new(alloc),
-        types: Vec::new(alloc),
+        exprs: Vec::with_capacity(alloc, parts.len())?,
+        types: Vec::with_capacity(alloc, parts.len())?,
     };
     for part in parts {
         let x = typed(alloc, scope, part, at, under)?;
@@ -448,10 +448,10 @@ fn branches_typed<C: Naming>(
     ensures refused { IfErr result (λ e. IsBad e (first_failing (branch_checks (C.names scope.now) (permissions_seen at) (branches_of (map plain_branch branches.now))))) }
 {
     let mut cases = Cases {
-        branches: Vec::new(alloc),
+        branches: Vec::with_capacity(alloc, branches.len())?,
         types: BranchTypes {
-            conditions: Vec::new(alloc),
-            values: Vec::new(alloc),
+            conditions: Vec::with_capacity(alloc, branches.len())?,
+            values: Vec::with_capacity(alloc, branches.len())?,
         },
         has_set: false,
     };

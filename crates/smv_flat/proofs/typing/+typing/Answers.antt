@@ -2,9 +2,9 @@ use Rattle.std.proofs.Common.{◌≡◌, ◌+◌, ◌∷◌, ◌||◌, ◌∙◌
 use Rattle.std.specs.List.{list_any}
 use Rattle.smv_text.specs.declared.tree.Expr.{the_lemmas as expr_lemmas}
 use Rattle.smv_text.specs.declared.tree.Link.{the_lemmas as link_lemmas}
-use Rattle.smv_text.specs.Tree.{Tree, truth, number, literal, range, prefix, select, next, call, set, cases, choice, chain, links_of, branches_of, trees_of}
+use Rattle.smv_text.specs.Tree.{Tree, prefix, select, next, call, set, cases, choice, chain, links_of, branches_of, trees_of}
 use Rattle.smv_text.specs.View.{plain, plain_link, plain_branch}
-use Rattle.smv_meaning.specs.Types.{ExprType, numbers_of}
+use Rattle.smv_meaning.specs.Types.{numbers_of}
 use Rattle.smv_meaning.specs.Checks.{typing, single, across, are_unions, linked, tree_checks, tree_types, link_checks, link_types, branch_checks, condition_types, value_types, all_types, under_next, first_failing}
 use Rattle.smv_meaning.specs.laws.Composing.{ends}
 use Rattle.smv_intervals.specs.View.{seen}
@@ -16,8 +16,8 @@ use Rattle.smv_types.specs.laws.Composing.{over, passed_operand}
 use Rattle.smv_types.specs.laws.Stepping.{taken, right_holds, rest_refuses, rest_stops, trees_end, trees_go, trees_more, trees_still, links_end, links_go, links_more, links_still, conditions_end, values_end, branches_go, conditions_more, values_more, branches_still, fronts_end, fronts_stop, fronts_go}
 use Rattle.smv_types.specs.laws.Shapes.{plain_chain, plain_choice, right_goes, left_goes, chain_stops, choice_stops, last_stops, choice_goes}
 use Rattle.smv_flat.specs.declared.expressions.FlatShape.TheVariants as OfShape
-use Rattle.smv_flat.specs.FlatTree.{FlatLinks, flat_prefix, flat_select, flat_call, flat_set, flat_cases, flat_choice, flat_chain, flat_links_of, flat_branches_of, flat_trees_of, flat_tree, flat_links, flat_branches, flat_trees, is_set, has_set, unless_set}
-use Rattle.smv_flat.specs.FlatView.{plain_flat, plain_flat_link, plain_flat_branch, mapped, type_of_rest, EndsTyped, AreCases}
+use Rattle.smv_flat.specs.FlatTree.{FlatLinks, flat_prefix, flat_select, flat_call, flat_set, flat_cases, flat_choice, flat_links_of, flat_branches_of, flat_trees_of, flat_tree, flat_links, flat_branches, flat_trees, is_set, has_set}
+use Rattle.smv_flat.specs.FlatView.{plain_flat, plain_flat_link, plain_flat_branch, mapped, type_of_rest, EndsTyped}
 use Rattle.smv_flat.proofs.TypedNodes.{stopped, err_mapped, node_ends, chain_ends, retyped_ends, handed, grown, finished, set_grown, set_finished, shape_prefix, shape_select, shape_call, shape_set, shape_case, shape_choice, link_flat, links_are, same_flat, same_are, right_chain, branch_flat, branches_are, sets_are, value_set, part_flat, parts_are, plain_truth_is, plain_untruth_is, plain_number_is, plain_literal_is, plain_range_is}
 use Rattle.smv_flat.proofs.typing.+typing.Goals as goal
 
@@ -389,8 +389,8 @@ fronts_typed-returns-in_err-x-clause-types g t c =
     let at = permissions_seen c.args.at in
     let s = taken c.args.links.now c.loop-link.link-index c.link-item.result c.loop-link-test.true c.link-item.is in
     fronts_end names at c.args.place (option_map seen c.loop-link.whole) c.args.links.now (drop (c.loop-link.link-index + 1) c.args.links.now) c.link-item.result c.loop-link.link-index
-    c.in_err-x.field-0.0 (linked names at c.args.place (passed (option_map seen c.args.first)) (links_of (map plain_link c.args.links.now))) (mapped type_of_rest c.from_residual.result) s
-    c.loop-link.invariant.same (err_mapped type_of_rest c.from_residual.result c.in_err-x.field-0.0 c.from_residual.ensures.1) (rw c.operand_standing-standing.ensures at c.in_err-x.ensures)
+    c.in_err-x.field-0.0 (linked names at c.args.place (passed (option_map seen c.args.first)) (links_of (map plain_link c.args.links.now))) (mapped type_of_rest c.from_residual-in_err-x.result) s
+    c.loop-link.invariant.same (err_mapped type_of_rest c.from_residual-in_err-x.result c.in_err-x.field-0.0 c.from_residual-in_err-x.ensures.1) (rw c.operand_standing-standing.ensures at c.in_err-x.ensures)
 
 pub fronts_typed-returns-in_err-whole-clause-types : goal.fronts_typed-returns-in_err-whole-clause-types
 fronts_typed-returns-in_err-whole-clause-types g t c =
@@ -441,7 +441,7 @@ parts_typed-returns-in_err-x-clause-refused g t c =
     let names = g.C.Naming.names c.args.scope.now in
     let at = permissions_seen c.args.at in
     let s = taken c.args.parts.now c.loop-part.part-index c.part-item.result c.loop-part-test.true c.part-item.is in
-    rest_refuses c.from_residual.result c.in_err-x.field-0.0 (first_failing (tree_checks names at (trees_of (map plain c.args.parts.now)))) c.from_residual.ensures.1
+    rest_refuses c.from_residual-in_err-x.result c.in_err-x.field-0.0 (first_failing (tree_checks names at (trees_of (map plain c.args.parts.now)))) c.from_residual-in_err-x.ensures.1
     (trees_end names at c.args.parts.now (drop (c.loop-part.part-index + 1) c.args.parts.now) c.part-item.result c.loop-part.part-index c.in_err-x.field-0.0 s
     c.loop-part.invariant.passes c.in_err-x.ensures)
 
@@ -479,7 +479,7 @@ branches_typed-returns-in_err-when-clause-refused g t c =
     let names = g.C.Naming.names c.args.scope.now in
     let at = permissions_seen c.args.at in
     let s = taken c.args.branches.now c.loop-branch.branch-index c.branch-item.result c.loop-branch-test.true c.branch-item.is in
-    rest_refuses c.from_residual.result c.in_err-when.field-0.0 (first_failing (branch_checks names at (branches_of (map plain_branch c.args.branches.now)))) c.from_residual.ensures.1
+    rest_refuses c.from_residual-in_err-when.result c.in_err-when.field-0.0 (first_failing (branch_checks names at (branches_of (map plain_branch c.args.branches.now)))) c.from_residual-in_err-when.ensures.1
     (conditions_end names at c.args.branches.now (drop (c.loop-branch.branch-index + 1) c.args.branches.now) c.branch-item.result c.loop-branch.branch-index c.in_err-when.field-0.0 s
     c.loop-branch.invariant.passes (rw c.without_sets.ensures at c.in_err-when.ensures))
 
