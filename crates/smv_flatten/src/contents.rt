@@ -81,8 +81,17 @@ fn formed_in<'a>(
     ensures formulas { IfOk result (λ f. map form_plain f.formulas.items ≡ forms_of (map instance_plain table.now)) }
     ensures order { IfOk result (λ f. f.order ≡ item_order (map instance_plain table.now) order.now) }
 {
-    let numbers = numbers_of(alloc, sources.origins.as_slice(), sources.paths.as_slice())?;
-    let built = types_checked(alloc, table, bodies, order, &numbers, &sources.symbols)?;
+    let origins = sources.origins.as_slice();
+    let numbers = numbers_of(alloc, origins, sources.paths.as_slice())?;
+    let built = types_checked(
+        alloc,
+        table,
+        bodies,
+        order,
+        origins,
+        &numbers,
+        &sources.symbols,
+    )?;
     let order = item_order(alloc, bodies, order.as_slice(), &numbers.bodies)?;
     Ok(Formed {
         formulas: built.forms,

@@ -214,7 +214,7 @@ pub(crate) fn bodies_typed<'s, 'a, 'n>(
     types_hang_on_paths();
     references_come_before();
     order_is_complete();
-    let mut entries = variables_of(alloc, model.table)?;
+    let mut entries = variables_of(alloc, model.table, model.origins)?;
     let mut kept = Vec::new(alloc);
     for number in order.as_slice() {
         let body = numbered_body(bodies, *number);

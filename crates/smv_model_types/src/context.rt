@@ -11,15 +11,16 @@ ghost use Rattle.smv_model_types.specs.Entries.{entries_seen, HasEach};
 use crate::names::{Entries, target_named};
 use smv_flat::{Naming, Resolved};
 use smv_instances::Table;
-use smv_items::{ItemNumbers, Symbols, leaf_of};
+use smv_items::{ItemNumbers, Origin, Symbols, leaf_of};
 use smv_text::Path;
 use std::alloc::Global;
 use text_core::NoMemory;
 
-/// A model's instances, the numbers of its items, and its symbols.
+/// A model's instances, the origins and the numbers of its items, and its symbols.
 #[derive(Drop)]
 pub(crate) struct Model<'s, 'a, 'n> {
     pub(crate) table: &'s Table<'a>,
+    pub(crate) origins: &'s [Origin<'a>],
     pub(crate) numbers: &'s ItemNumbers<'a, 'n>,
     pub(crate) symbols: &'s Symbols,
     ghost bodies: { AreBodies (origins_of (map instance_plain table.now)) numbers.now.bodies } by { let number : Coded (Option ℕ) = Prim.hlevel codes in Π_prop (λ i. Π_prop (λ x. Coded-set number _ _)) },

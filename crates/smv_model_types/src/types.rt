@@ -18,7 +18,7 @@ use crate::bodies::{TypedBodies, bodies_typed};
 use crate::building::{Building, Built, add_instance};
 use crate::context::{Context, Model};
 use smv_instances::Table;
-use smv_items::{ItemNumbers, Symbols};
+use smv_items::{ItemNumbers, Origin, Symbols};
 use smv_names::NamesEnd;
 use smv_references::Body;
 use std::alloc::Global;
@@ -26,14 +26,15 @@ use text_core::List;
 
 /// Checks all types and positions of a model, and returns the types of its items and the flat form of its formulas.
 ///
-/// `Err` is out of memory or the first refusal, one of S16 to S20 and S23 to S26. Instances come in preorder. In each,
-/// its actuals come first, then its elements in the order of the text.
+/// `origins` are the origins of its items. `Err` is out of memory or the first refusal, one of S16 to S20 and S23 to
+/// S26. Instances come in preorder. In each, its actuals come first, then its elements in the order of the text.
 #[tactic(auto, using(smv_meaning::specs::laws::Lists::front_is, smv_meaning::specs::laws::Lists::end_is, smv_meaning::specs::laws::Composing::goes, smv_meaning::specs::laws::Composing::ends, crate::proofs::BuildingLaws::few_origins, crate::proofs::BuildingLaws::few_symbols))]
 pub fn types_checked<'a, 'n>(
     alloc: Global,
     table: &Table<'a>,
     bodies: &[Body<'a>],
     order: &List<usize>,
+    origins: &[Origin<'a>],
     numbers: &ItemNumbers<'a, 'n>,
     symbols: &Symbols,
 ) -> Result<Built, NamesEnd>
@@ -49,6 +50,7 @@ pub fn types_checked<'a, 'n>(
 {
     let model = Model {
         table,
+        origins,
         numbers,
         symbols,
     };
@@ -58,10 +60,12 @@ pub fn types_checked<'a, 'n>(
         model: &model,
         entries: &entries,
     };
+    let forms = Vec::with_capacity(alloc, origins.len())?;
+    let types = Vec::with_capacity(alloc, origins.len())?;
     let mut built = Building {
-        forms: Vec::new(alloc),
+        forms,
         rest: Vec::new(alloc),
-        types: Vec::new(alloc),
+        types,
         kept,
     };
     for (i, part) in table.list().iter().enumerate() {

@@ -9,8 +9,9 @@ use crate::domains::variable_named;
 use crate::names::Entries;
 use name_maps::{add_row_in, no_rows_in};
 use smv_instances::{Known, Table, names_in_all};
+use smv_items::{Content, Origin};
 use smv_laws::names_settle;
-use smv_text::{Domain, Element, Elements, Item, Items};
+use smv_text::Domain;
 use std::alloc::Global;
 use text_core::NoMemory;
 
@@ -32,91 +33,37 @@ fn put_variable<'a>(
 }
 
 // The type of an enumeration is computed once; any other takes only a step or two to compute from the declaration.
-fn put_item<'a>(
+fn put_origin<'a>(
     table: &Table<'a>,
     entries: &mut Entries<'a>,
-    i: usize,
-    item: &'a Item,
+    origin: &Origin<'a>,
 ) -> Result<(), NoMemory>
     requires acyclic { Acyclic (map instance_plain table.now) }
     requires right { Right (map instance_plain table.now) (entries_seen entries.old) }
     ensures { OnOk result (Right (map instance_plain table.now) (entries_seen entries.new)) }
 {
     names_settle();
-    match &item.domain {
-        Domain::Members(_) => {
-            put_variable(table, entries, i, item.name.bytes())?;
+    match origin.content {
+        Content::Variable(_, Domain::Members(_)) => {
+            put_variable(table, entries, origin.instance as usize, origin.name)?;
             Ok(())
         }
-        Domain::Boolean => Ok(()),
-        Domain::Between(_, _) => Ok(()),
-        Domain::Bits(_) => Ok(()),
-        Domain::Instance(_, _) => Ok(()),
+        _ => Ok(()),
     }
 }
 
-fn put_items<'a>(
+/// Returns the entries of these variables with enumeration types.
+pub(crate) fn variables_of<'a>(
+    alloc: Global,
     table: &Table<'a>,
-    entries: &mut Entries<'a>,
-    i: usize,
-    items: &'a Items,
-) -> Result<(), NoMemory>
-    requires acyclic { Acyclic (map instance_plain table.now) }
-    requires right { Right (map instance_plain table.now) (entries_seen entries.old) }
-    ensures { OnOk result (Right (map instance_plain table.now) (entries_seen entries.new)) }
-{
-    for item in items {
-        put_item(table, entries, i, item)?;
-    }
-    Ok(())
-}
-
-fn put_element<'a>(
-    table: &Table<'a>,
-    entries: &mut Entries<'a>,
-    i: usize,
-    element: &'a Element,
-) -> Result<(), NoMemory>
-    requires acyclic { Acyclic (map instance_plain table.now) }
-    requires right { Right (map instance_plain table.now) (entries_seen entries.old) }
-    ensures { OnOk result (Right (map instance_plain table.now) (entries_seen entries.new)) }
-{
-    match element {
-        Element::Vars(_, items) => put_items(table, entries, i, items),
-        Element::Defines(_) => Ok(()),
-        Element::Constants(_) => Ok(()),
-        Element::Assigns(_) => Ok(()),
-        Element::Init(_) => Ok(()),
-        Element::Trans(_) => Ok(()),
-        Element::Invar(_) => Ok(()),
-        Element::Spec(_, _) => Ok(()),
-    }
-}
-
-fn put_elements<'a>(
-    table: &Table<'a>,
-    entries: &mut Entries<'a>,
-    i: usize,
-    elements: &'a Elements,
-) -> Result<(), NoMemory>
-    requires acyclic { Acyclic (map instance_plain table.now) }
-    requires right { Right (map instance_plain table.now) (entries_seen entries.old) }
-    ensures { OnOk result (Right (map instance_plain table.now) (entries_seen entries.new)) }
-{
-    for element in elements {
-        put_element(table, entries, i, element)?;
-    }
-    Ok(())
-}
-
-/// Returns the entries of all variables with enumeration types, over all instances.
-pub(crate) fn variables_of<'a>(alloc: Global, table: &Table<'a>) -> Result<Entries<'a>, NoMemory>
+    origins: &[Origin<'a>],
+) -> Result<Entries<'a>, NoMemory>
     requires acyclic { Acyclic (map instance_plain table.now) }
     ensures { IfOk result (λ entries. Right (map instance_plain table.now) (entries_seen entries)) }
 {
     let mut entries = no_rows_in(alloc, names_in_all(table.list()))?;
-    for (i, part) in table.list().iter().enumerate() {
-        put_elements(table, &mut entries, i, &part.module.elements)?;
+    for origin in origins {
+        put_origin(table, &mut entries, origin)?;
     }
     Ok(entries)
 }

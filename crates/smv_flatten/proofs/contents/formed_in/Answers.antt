@@ -8,7 +8,7 @@ use Rattle.smv_flatten.proofs.contents.formed_in.Goals as goal
 pub returns-clause-order : goal.returns-clause-order
 returns-clause-order c =
     let t = map instance_plain c.args.table.now in
-    let origins = ap (map origin_plain) c.as_slice.ensures.value ∙ c.requires.origins in
-    let paths = c.as_slice-2.ensures.value ∙ c.requires.paths ∙ ap (map (path_of t)) (sym origins) in
-    order_made c.in_ok-numbers.numbers.bodies c.args.bodies.now t (map origin_plain c.as_slice.result.now) c.args.order.now c.as_slice-3.result.now c.in_ok-order.order
-    c.as_slice-3.ensures c.requires.bodies origins (c.in_ok-numbers.ensures t paths).bodies c.in_ok-order.ensures
+    let origins = ap (map origin_plain) c.as_slice-origins.ensures.value ∙ c.requires.origins in
+    let paths = c.as_slice.ensures.value ∙ c.requires.paths ∙ ap (map (path_of t)) (sym origins) in
+    order_made c.in_ok-numbers.numbers.bodies c.args.bodies.now t (map origin_plain c.as_slice-origins.result.now) c.args.order.now c.as_slice-2.result.now c.in_ok-order.order
+    c.as_slice-2.ensures c.requires.bodies origins (c.in_ok-numbers.ensures t paths).bodies c.in_ok-order.ensures

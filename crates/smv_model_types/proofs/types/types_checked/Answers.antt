@@ -9,9 +9,9 @@ use Rattle.smv_model_types.proofs.types.types_checked.Goals as goal
 pub loop-i-init : goal.loop-i-init
 loop-i-init c =
     let t = map instance_plain c.args.table.now in
-    let built : Building = record { forms = c.new.result; rest = c.new-2.result; types = c.new-3.result; kept = c.in_ok-typed.typed.kept } in
+    let built : Building = record { forms = c.in_ok-forms.forms; rest = c.new.result; types = c.in_ok-types.types; kept = c.in_ok-typed.typed.kept } in
     subst (λ (parts : List Instance). Passes t 0 (map instance_plain parts) built) (sym c.list-part-items.ensures)
-    (passes_start t built c.new-3.ensures.items c.new.ensures.items c.new-2.ensures.items c.in_ok-typed.ensures.kept)
+    (passes_start t built c.in_ok-types.ensures.items c.in_ok-forms.ensures.items c.new.ensures.items c.in_ok-typed.ensures.kept)
 
 pub add_instance-requires-clause-ready : goal.add_instance-requires-clause-ready
 add_instance-requires-clause-ready c =

@@ -6,5 +6,5 @@ use Rattle.smv_model_types.specs.Entries.{entries_seen}
 use Rattle.smv_model_types.proofs.Filling.{none_right}
 use Rattle.smv_model_types.proofs.variables.variables_of.Goals as goal
 
-pub loop-i-init : goal.loop-i-init
-loop-i-init c = none_right (map instance_plain c.args.table.now) (entries_seen c.in_ok-entries.entries) (λ i x. ap (option_map named_seen) (c.in_ok-entries.ensures i x))
+pub loop-origin-init : goal.loop-origin-init
+loop-origin-init c = none_right (map instance_plain c.args.table.now) (entries_seen c.in_ok-entries.entries) (λ i x. ap (option_map named_seen) (c.in_ok-entries.ensures i x))
