@@ -30,7 +30,6 @@ use Rattle.smv_types.specs.laws.Composing.{ok_parts}
 use Rattle.smv_types.specs.laws.Shapes.{implies_across}
 use Rattle.smv_items.specs.FlatItems.{Leaf}
 use Rattle.smv_flat.specs.declared.expressions.FlatExpr.{FlatExpr}
-use Rattle.smv_flat.specs.declared.expressions.FlatLink.{FlatLink}
 use Rattle.smv_flat.specs.declared.expressions.FlatBranch.{FlatBranch}
 use Rattle.smv_flat.specs.declared.expressions.FlatShape.{FlatShape, the_lemmas as shape_lemmas}
 use Rattle.smv_flat.specs.declared.expressions.FlatShape.TheVariants as OfShape
@@ -87,9 +86,6 @@ handed (Err e) x t h k = subst (λ y. IsBad y (first_failing t.checks)) (sym h) 
 
 pub shape_prefix : (sign : Prefix) (n : ℕ) (b : Box FlatExpr Global) (u : Option ExprType) → plain_shape (OfShape.Prefix sign n b) u ≡ flat_prefix u sign n (plain_flat b.value)
 shape_prefix sign n b u = search (rules, shape_lemmas)
-
-pub shape_chain : (b : Box FlatExpr Global) (ls : Vec FlatLink Global) (u : Option ExprType) → plain_shape (OfShape.Chain b ls) u ≡ flat_chain u (plain_flat b.value) (flat_links_of (map plain_flat_link ls.items))
-shape_chain b ls u = search (rules, shape_lemmas)
 
 pub shape_choice : (bs : Vec FlatBranch Global) (b : Box FlatExpr Global) (u : Option ExprType) → plain_shape (OfShape.Choice bs b) u ≡ flat_choice u (flat_branches_of (map plain_flat_branch bs.items)) (plain_flat b.value)
 shape_choice bs b u = search (rules, shape_lemmas)

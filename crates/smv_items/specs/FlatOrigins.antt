@@ -1,5 +1,5 @@
 -- What the code keeps of items while it numbers them.
-use Rattle.std.specs.Prelude.{◌≡◌, ℕ, Bool, if◌then◌else◌, List, [], ◌∷◌, ◌+◌, position, sum_by, Option, Some, None, is_none, not, ◌&&◌, ◌==◌, bytes_eq}
+use Rattle.std.specs.Prelude.{◌≡◌, ℕ, Bool, if◌then◌else◌, List, position, sum_by, Option, Some, None, is_none, not, ◌&&◌, ◌==◌, bytes_eq}
 use Rattle.std.specs.Option.{option_or}
 use Rattle.smv_text.specs.View.{plain, plain_domain}
 use Rattle.smv_meaning.specs.Instances.{Instance}
@@ -31,11 +31,6 @@ content_or_none (Some c) = Some (content_plain c)
 
 abbrev pub origin_plain : StoredOrigin → Origin
 origin_plain m = record { instance = m.instance; name = m.name.now; content = content_plain m.content }
-
--- how many items at the front belong to an instance
-abbrev pub own_count : ℕ → List Origin → ℕ
-own_count i [] = 0
-own_count i (m ∷ ms) = if m.instance == i then own_count i ms + 1 else 0
 
 abbrev pub leaf_plain : KeptLeaf → Leaf
 leaf_plain (OfLeaf.Item k) = of_item k

@@ -10,5 +10,5 @@ pub use items::{FlatItem, ItemKind};
 pub use numbers::{
     Bodies, ItemNumbers, Leaf, PathNumbers, VariableNumber, Variables, leaf_of, numbers_of,
 };
-pub use origins::{Content, Origin, Origins, dotted_path, dotted_paths, origins_in, own_count};
+pub use origins::{Content, Origin, Origins, dotted_path, dotted_paths, origins_in};
 pub use symbols::{Symbols, symbols_in};

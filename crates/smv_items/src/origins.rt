@@ -1,11 +1,11 @@
 // The declarations that the items of a model come from, in order.
-ghost use Rattle.std.specs.Prelude.{◌≡◌, ◌≤◌, ◌<◌, ◌^◌, ◌++◌, [], length, map, flat_map, OnOk, IfOk};
+ghost use Rattle.std.specs.Prelude.{◌≡◌, ◌<◌, ◌^◌, ◌++◌, [], length, map, flat_map, OnOk, IfOk};
 ghost use Rattle.smv_text.specs.Tree.{trees_of};
 ghost use Rattle.smv_text.specs.View.{plain, plain_item, plain_definition, plain_element, plain_domain};
 ghost use Rattle.smv_meaning.specs.Names.{dotted_at};
 ghost use Rattle.smv_instances.specs.View.{instance_plain};
 ghost use Rattle.smv_items.specs.FlatItems.{with_content, actual_content, actual_items, domain_content, variable_item, definition_item, element_items, items_here, origins_of, path_of};
-ghost use Rattle.smv_items.specs.FlatOrigins.{origin_plain, content_or_none, own_count};
+ghost use Rattle.smv_items.specs.FlatOrigins.{origin_plain, content_or_none};
 
 use smv_instances::{Instance, Table, path_below};
 use smv_text::{Definitions, Domain, Element, Elements, Expr, Items, Parameters, Shape, VarKind};
@@ -173,20 +173,6 @@ pub fn origins_in<'a>(alloc: Global, table: &Table<'a>) -> Result<Origins<'a>, N
         put_origins(&mut origins, i as u32, part)?;
     }
     Ok(origins)
-}
-
-/// Returns the number of items at the front of the list that belong to the instance with this number.
-#[tactic(auto, using(smv_meaning::specs::laws::Lists::front_is, smv_meaning::specs::laws::Lists::end_is))]
-pub fn own_count(origins: &[Origin], i: usize) -> usize
-    ensures bound { result ≤ length origins.now }
-    ensures own { result ≡ own_count i (map origin_plain origins.now) }
-{
-    for (k, origin) in origins.iter().enumerate() {
-        if origin.instance as usize != i {
-            return k;
-        }
-    }
-    origins.len()
 }
 
 /// Returns the dotted paths of these items.

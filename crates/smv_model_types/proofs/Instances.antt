@@ -1,12 +1,10 @@
 -- The pass over a model's instances: what remains completes what is asked of all of them.
 use Rattle.std.proofs.Common.{◌≡◌, ℕ, ◌+◌, List, [], ◌∷◌, ◌++◌, length, map, option_map, append_assoc, None, refl, sym, ap, ◌∙◌, subst}
 use Rattle.std.proofs.lemmas.List.{length-append, length-map, map-append}
-use Rattle.text_core.specs.declared.end.End.{End}
-use Rattle.text_core.proofs.ListLaws.{append_none}
-use Rattle.smv_meaning.specs.Checks.{first_failing, IsBad}
+use Rattle.smv_meaning.specs.Checks.{first_failing}
 use Rattle.smv_meaning.specs.Instances.{Instance}
 use Rattle.smv_meaning.specs.Phases.{type_checks, names_in, over_instances}
-use Rattle.smv_meaning.specs.laws.Composing.{goes, ends}
+use Rattle.smv_meaning.specs.laws.Composing.{goes}
 use Rattle.smv_intervals.specs.View.{seen}
 use Rattle.smv_items.specs.FlatItems.{Origin, content_type, items_here, origins_of}
 use Rattle.smv_flat.specs.FlatForms.{forms_here, forms_from, forms_of}
@@ -56,13 +54,3 @@ passes_step t i at rest now next h c a =
           ∙ append_assoc (map form_plain now.forms.items) (forms_here t (length now.types.items) i at) (forms_from t (length now.types.items + length here) (i + 1) rest) ∙ h.forms;
       none = a.rest;
     }
-
-pub passes_stop : (t : List Instance) (i : ℕ) (at : Instance) (rest : List Instance) (now : Building) (end : End) → Passes t i (at ∷ rest) now → IsBad end (first_failing (type_checks (names_in t) i at))
-    → IsBad end (first_failing (over_instances (type_checks (names_in t)) 0 t))
-passes_stop t i at rest now end h b = subst (IsBad end) h.checks (ends end (type_checks (names_in t) i at) (over_instances (type_checks (names_in t)) (i + 1) rest) b)
-
-pub passes_types : (t : List Instance) (i : ℕ) (now : Building) → Passes t i [] now → map (option_map seen) now.types.items ≡ map (λ (m : Origin). content_type t m.content) (origins_of t)
-passes_types t i now h = sym (append_none (map (option_map seen) now.types.items)) ∙ h.types
-
-pub passes_forms : (t : List Instance) (i : ℕ) (now : Building) → Passes t i [] now → map form_plain now.forms.items ≡ forms_of t
-passes_forms t i now h = sym (append_none (map form_plain now.forms.items)) ∙ h.forms

@@ -4,23 +4,19 @@ use Rattle.std.specs.Prelude.{slice_index_or, Result, Err, OnOk}
 use Rattle.std.specs.List.{slice_get, AllByRecursion}
 use Rattle.std.proofs.lemmas.Bool.{eqb-true}
 use Rattle.std.proofs.lemmas.Slice.Eq.{bytes_eq-Decides}
-use Rattle.smv_text.specs.declared.tree.Path.{Path}
 use Rattle.smv_text.specs.Tree.{Tree}
 use Rattle.smv_meaning.specs.Instances.{Instance}
 use Rattle.smv_meaning.specs.Names.{Local, body_of, nothing, local}
-use Rattle.smv_meaning.specs.Checks.{Named, typing}
 use Rattle.smv_meaning.specs.Naming.{in_body}
 use Rattle.smv_meaning.specs.Settled.{types_in}
-use Rattle.smv_intervals.specs.View.{seen}
-use Rattle.smv_items.specs.FlatItems.{Content, variable, definition, actual, Origin, Leaf, leaf_in, origins_of, is_body}
+use Rattle.smv_items.specs.FlatItems.{Content, variable, definition, actual, Origin, leaf_in, origins_of, is_body}
 use Rattle.smv_items.specs.FlatOrigins.{is_body_at}
 use Rattle.smv_items.specs.laws.Declarations.{DiffersInside}
 use Rattle.smv_flat.specs.declared.nodes.Typed.{Typed}
 use Rattle.smv_flat_laws.proofs.FlatPlaces.{position_cons}
 use Rattle.smv_flat_laws.proofs.FlatNames.{IsLocal, item_local}
 use Rattle.smv_model_types.specs.Entries.{Entries, entries_names}
-use Rattle.smv_model_types.specs.Kept.{body_in, body_or_none, content_at, IsBodyAt, Stand, IsTypedIn, AreKept, IsTried, tried_type, HasReferred, IsBodyOf}
-use Rattle.smv_model_types.proofs.BuildingLaws.{passed}
+use Rattle.smv_model_types.specs.Kept.{body_in, body_or_none, content_at, IsBodyAt, Stand, IsTypedIn, AreKept, IsTried, HasReferred, IsBodyOf}
 use Rattle.smv_model_types.proofs.Filling.{both_true}
 use Rattle.smv_model_types.proofs.FlatSame.{ends_same}
 
@@ -63,10 +59,6 @@ pub body_low : (t : List Instance) (k j : ℕ) (e : Tree) → length (origins_of
 body_low t k j e few h = let l : k < length (origins_of t) = some_low (origins_of t) k (j, e) h in omega (arith, few, l)
 
 -- ---- bodies in the order of references
-
-pub tried_has : (names : Path → Named) (leaf : Path → Leaf) (e : Tree) (o : Option Typed) → IsTried names leaf e o → option_map seen (tried_type o) ≡ (typing names in_body e).type
-tried_has names leaf e None h = h
-tried_has names leaf e (Some x) h = sym (passed (typing names in_body e) (option_map seen x.ty) h.0).1
 
 pub tried_is : (t : List Instance) (entries : Entries) (i : ℕ) (x : List ℕ) (j : ℕ) (e : Tree) (o : Option Typed) → local t i x ≡ body_of j e → HasReferred t entries (i, x)
     → IsTried (entries_names t entries j) (leaf_in t j) e o → IsBodyOf t i x o

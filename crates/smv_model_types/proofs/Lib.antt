@@ -1,4 +1,3 @@
-pub mod Lists
 pub mod Composing
 pub mod DomainLemmas
 pub mod Filling

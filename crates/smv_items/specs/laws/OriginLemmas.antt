@@ -1,9 +1,6 @@
--- Lists of items, grown from the left, and where the items of an instance end.
-use Rattle.std.proofs.Common.{◌≡◌, ℕ, ◌+◌, ◌<◌, ◌==◌, ◌⊎◌, inl, inr, Bool, true, false, if◌then◌else◌, List, [], ◌∷◌, ◌++◌, take, drop, length, map, flat_map, Option, Some, None, refl, sym, ap, ◌∙◌, arith}
+-- Lists of items, grown from the left.
+use Rattle.std.proofs.Common.{◌≡◌, ℕ, ◌+◌, ◌⊎◌, inl, inr, List, [], ◌∷◌, ◌++◌, map, flat_map, Option, Some, None, refl, ap, ◌∙◌}
 use Rattle.std.specs.List.{AllByRecursion}
-use Rattle.std.proofs.lemmas.Bool.{eqb-true, eq-eqb}
-use Rattle.std.proofs.lemmas.List.{take-map, drop-map}
-use Rattle.std.proofs.Math.Seq.{take-append_seam, drop-append_seam}
 use Rattle.text_core.proofs.ListLaws.{append_none}
 use Rattle.smv_text.specs.declared.tree.Parameter.{Parameter}
 use Rattle.smv_text.specs.declared.tree.Expr.{Expr}
@@ -11,10 +8,7 @@ use Rattle.smv_text.specs.Tree.{Trees, no_trees, tree, trees_of, PlainDefinition
 use Rattle.smv_text.specs.View.{plain}
 use Rattle.smv_meaning.specs.Instances.{Instance}
 use Rattle.smv_meaning.specs.Names.{parent_of}
-use Rattle.smv_meaning.specs.Phases.{over_instances}
-use Rattle.smv_items.specs.declared.origins.Origin.{Origin as StoredOrigin}
 use Rattle.smv_items.specs.FlatItems.{Content, Origin, with_content, actual_content, actual_items, domain_content, variable_item, definition_item, element_items, items_here}
-use Rattle.smv_items.specs.FlatOrigins.{origin_plain, own_count}
 
 none_actual : (i j : ℕ) (qs : List Parameter) → actual_items i j qs no_trees ≡ []
 none_actual i j [] = refl
@@ -65,43 +59,3 @@ pub own_here : (i : ℕ) (at : Instance) → AllOwn i (items_here i at)
 own_here i at =
     own_both i (actual_items i (parent_of at) at.module.parameters at.actuals) (flat_map (element_items i) at.module.elements) (own_actuals i (parent_of at) at.module.parameters at.actuals)
     (own_each i (element_items i) (own_element i) at.module.elements)
-
--- ---- and those of later instances have a greater one
-
-count_own : (i : ℕ) (xs ys : List Origin) → AllOwn i xs → own_count i (xs ++ ys) ≡ length xs + own_count i ys
-count_own i [] ys h = omega arith
-count_own i (x ∷ xs) ys h = ap (λ b. if b then own_count i (xs ++ ys) + 1 else 0) (eq-eqb x.instance i h.0) ∙ omega (arith, count_own i xs ys h.1)
-
-count_other : (i j : ℕ) → i < j → (xs ys : List Origin) → AllOwn j xs → own_count i ys ≡ 0 → own_count i (xs ++ ys) ≡ 0
-count_other i j l [] ys h k = k
-count_other i j l (x ∷ xs) ys h k = by (x.instance == i) refl
-  where
-    by : (b : Bool) → (x.instance == i) ≡ b → (if b then own_count i (xs ++ ys) + 1 else 0) ≡ 0
-    by true e = let same = eqb-true x.instance i e in let other = h.0 in absurd (omega (arith, same, other, l))
-    by false e = refl
-
-count_later : (i j : ℕ) → i < j → (t : List Instance) → own_count i (over_instances items_here j t) ≡ 0
-count_later i j l [] = refl
-count_later i j l (at ∷ t) = count_other i j l (items_here j at) (over_instances items_here (j + 1) t) (own_here j at) (count_later i (j + 1) (omega (arith, l)) t)
-
-count_here : (i : ℕ) (at : Instance) (rest : List Instance) → own_count i (items_here i at ++ over_instances items_here (i + 1) rest) ≡ length (items_here i at)
-count_here i at rest =
-    let own = count_own i (items_here i at) (over_instances items_here (i + 1) rest) (own_here i at) in
-    let later = count_later i (i + 1) (omega arith) rest in
-    omega (arith, own, later)
-
-counted : (i n : ℕ) (at : Instance) (rest : List Instance) (xs : List StoredOrigin) → n ≡ own_count i (map origin_plain xs) → map origin_plain xs ≡ over_instances items_here i (at ∷ rest) → n ≡ length (items_here i at)
-counted i n at rest xs e h = e ∙ ap (own_count i) h ∙ count_here i at rest
-
--- the items of the first of some instances, and those of the others
-pub own_front : (i n : ℕ) (at : Instance) (rest : List Instance) (xs : List StoredOrigin) → n ≡ own_count i (map origin_plain xs) → map origin_plain xs ≡ over_instances items_here i (at ∷ rest)
-    → map origin_plain (take n xs) ≡ items_here i at
-own_front i n at rest xs e h =
-    sym (take-map origin_plain n xs) ∙ ap (take n) h ∙ ap (λ k. take k (items_here i at ++ over_instances items_here (i + 1) rest)) (counted i n at rest xs e h)
-    ∙ take-append_seam (items_here i at) (over_instances items_here (i + 1) rest)
-
-pub own_passed : (i n : ℕ) (at : Instance) (rest : List Instance) (xs : List StoredOrigin) → n ≡ own_count i (map origin_plain xs) → map origin_plain xs ≡ over_instances items_here i (at ∷ rest)
-    → map origin_plain (drop n xs) ≡ over_instances items_here (i + 1) rest
-own_passed i n at rest xs e h =
-    sym (drop-map origin_plain n xs) ∙ ap (drop n) h ∙ ap (λ k. drop k (items_here i at ++ over_instances items_here (i + 1) rest)) (counted i n at rest xs e h)
-    ∙ drop-append_seam (items_here i at) (over_instances items_here (i + 1) rest)

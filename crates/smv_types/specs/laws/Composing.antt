@@ -1,5 +1,5 @@
 -- Checks one after another: the first that fails refuses.
-use Rattle.std.proofs.Common.{◌≡◌, List, [], ◌∷◌, ◌++◌, Option, Some, None, Result, Ok, Err, append_assoc, IfOk, option_map, refl, sym, ◌∙◌, ap, subst}
+use Rattle.std.proofs.Common.{◌≡◌, List, [], ◌∷◌, ◌++◌, Option, Some, None, Result, Ok, Err, append_assoc, refl, sym, ◌∙◌, ap, subst}
 use Rattle.text_core.specs.declared.end.End.{End}
 use Rattle.text_core.specs.declared.end.End.TheVariants.{Bad, NoMemory}
 use Rattle.text_core.specs.declared.place.Place.{Place}
@@ -10,7 +10,6 @@ use Rattle.smv_text.specs.Tree.{Tree, Links, no_links, link, Branches, no_branch
 use Rattle.smv_meaning.specs.Types.{ExprType}
 use Rattle.smv_meaning.specs.Checks.{Check, first_failing, Position, Named, Typing, typing, front, linked, behind, value_types, IsBad}
 use Rattle.smv_intervals.specs.declared.types.Ty.{Ty}
-use Rattle.smv_intervals.specs.View.{seen}
 use Rattle.smv_types.specs.Outcome.{verdict, outcome, Answers, Ends}
 use Rattle.smv_types.specs.Steps.{passed, behind_checks, front_step}
 use Rattle.smv_meaning.specs.laws.Composing.{stops, goes, ends_behind}
@@ -22,15 +21,6 @@ ok_parts (Some why) x y h = cc
 pub err_part : {X : Type 0} (o : Option Refusal) (x : X) (why : Refusal) → verdict o x ≡ Err why → o ≡ Some why
 err_part None x why h = cc
 err_part (Some r) x why h = cc
-
--- what an answer says of the checks and of the type
-pub passes_of : (r : Result (Option Ty) End) (t u : Typing) → t ≡ u → Ends r t → IfOk r (λ o. first_failing u.checks ≡ None)
-passes_of (Ok o) t u e h = ap (λ x. first_failing x.checks) (sym e) ∙ (ok_parts (first_failing t.checks) t.type (option_map seen o) h).0
-passes_of (Err end) t u e h = tt
-
-pub type_at : (r : Result (Option Ty) End) (t u : Typing) → t ≡ u → Ends r t → IfOk r (λ o. option_map seen o ≡ u.type)
-type_at (Ok o) t u e h = sym (ok_parts (first_failing t.checks) t.type (option_map seen o) h).1 ∙ ap (λ x. x.type) e
-type_at (Err end) t u e h = tt
 
 -- an operand that passes its checks, and then its node
 pub goes_on : (a : Typing) (x : Option ExprType) (step : Option ExprType → Typing) (r : Result (Option ExprType) Refusal)
