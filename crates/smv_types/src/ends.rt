@@ -1,5 +1,7 @@
 // Failures of the checks of an expression.
-ghost use Rattle.std.specs.Prelude.{◌≡◌, true, false, MatchResult};
+ghost use Rattle.std.specs.Prelude.{◌≡◌, true, false, Ok, Err, MatchResult};
+ghost use Rattle.text_core.specs.declared.end.End.TheVariants as OfEnd;
+ghost use Rattle.text_core.specs.declared.place.Refusal.{Refusal as RefusalOf};
 ghost use Rattle.smv_meaning.specs.Checks.{Typing};
 ghost use Rattle.smv_types.specs.Outcome.{Answers, Ends};
 
@@ -28,7 +30,8 @@ pub(crate) fn check(kind: Kind, place: Place, test: bool) -> Result<(), Refusal>
 
 /// Converts the result of a node's checks.
 pub fn answered(answer: Result<Option<Ty>, Refusal>) -> Result<Option<Ty>, CheckEnd>
-    ensures { (t : Typing) → Answers answer t → Ends result t }
+    ensures typing { (t : Typing) → Answers answer t → Ends result t }
+    ensures same { MatchResult result (λ t. answer ≡ Ok t) (λ e. (why : RefusalOf) × (answer ≡ Err why) × (e ≡ OfEnd.Bad why)) }
 {
     match answer {
         Ok(t) => Ok(t),

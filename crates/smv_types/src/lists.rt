@@ -2,7 +2,7 @@
 ghost use Rattle.std.specs.Prelude.{◌≡◌, map, option_map, MatchResult};
 ghost use Rattle.std.specs.List.{list_all};
 ghost use Rattle.text_core.specs.declared.end.End.TheVariants as OfEnd;
-ghost use Rattle.smv_meaning.specs.Types.{is_truth_type, type_same, logical_fits, are_same, hull_with, hull_of};
+ghost use Rattle.smv_meaning.specs.Types.{is_truth_type, logical_fits, are_same, hull_of};
 ghost use Rattle.smv_meaning.specs.Checks.{all_types};
 ghost use Rattle.smv_intervals.specs.View.{seen};
 ghost use Rattle.smv_types.specs.View.{permissions_seen};
@@ -42,46 +42,35 @@ pub(crate) fn are_truths(types: &[Ty]) -> bool
     true
 }
 
-// Whether all types are the same as this one, regardless of intervals.
-fn are_as(t: Ty, types: &[Ty]) -> bool
-    ensures { result ≡ list_all (type_same (seen t)) (map seen types.now) }
+// Whether there is at least one type and all are the same, regardless of intervals.
+#[tactic(auto, using(smv_meaning::specs::laws::Lists::front_is, smv_meaning::specs::laws::Lists::end_is))]
+fn are_same(types: &[Ty]) -> bool
+    ensures { result ≡ are_same (map seen types.now) }
 {
-    for u in types {
-        if !t.is_same(*u) {
+    let Some((first, others)) = types.split_first() else {
+        return false
+    };
+    for t in others {
+        if !first.is_same(*t) {
             return false;
         }
     }
     true
 }
 
-// Whether there is at least one type and all are the same, regardless of intervals.
-fn are_same(types: &[Ty]) -> bool
-    ensures { result ≡ are_same (map seen types.now) }
-{
-    match types {
-        [] => false,
-        [t, rest @ ..] => are_as(*t, rest),
-    }
-}
-
-fn hull_with(t: Ty, types: &[Ty]) -> Ty
-    ensures { seen result ≡ hull_with (seen t) (map seen types.now) }
-{
-    let mut all = t;
-    for u in types {
-        all = hull(all, *u);
-    }
-    all
-}
-
 // The smallest type that contains all.
+#[tactic(auto, using(smv_meaning::specs::laws::Lists::front_is, smv_meaning::specs::laws::Lists::end_is))]
 fn hull_of(types: &[Ty]) -> Ty
     ensures { seen result ≡ hull_of (map seen types.now) }
 {
-    match types {
-        [] => Ty::Truth,
-        [t, rest @ ..] => hull_with(*t, rest),
+    let Some((first, others)) = types.split_first() else {
+        return Ty::Truth
+    };
+    let mut whole = *first;
+    for t in others {
+        whole = hull(whole, *t);
     }
+    whole
 }
 
 // Whether all fit this one as operands of a logical operator.

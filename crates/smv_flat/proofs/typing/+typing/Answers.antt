@@ -134,7 +134,7 @@ prefix_typed-returns g t c =
     let told = rw c.without_sets.ensures at c.in_ok-x.ensures in
     node_ends (typing names at (prefix c.args.place c.args.sign c.args.count e)) c.answered-ty.result (OfShape.Prefix c.args.sign c.args.count c.in_ok-inner.inner) false false
     (λ u. flat_prefix u c.args.sign c.args.count (flat_tree names leaf (single at) c.args.under e)) _ c.node.result
-    (passed_operand c.answered-ty.result (typing names (single at) e) x (prefix_step c.args.place c.args.sign c.args.count) told.0 (c.answered-ty.ensures (prefix_step c.args.place c.args.sign c.args.count x) c.check_sign.ensures))
+    (passed_operand c.answered-ty.result (typing names (single at) e) x (prefix_step c.args.place c.args.sign c.args.count) told.0 (c.answered-ty.ensures.typing (prefix_step c.args.place c.args.sign c.args.count x) c.check_sign.ensures))
     c.node.ensures refl
     (λ u. shape_prefix c.args.sign c.args.count c.in_ok-inner.inner u ∙ ap (λ v. flat_prefix u c.args.sign c.args.count (plain_flat v)) c.in_ok-inner.ensures.ok ∙ ap (flat_prefix u c.args.sign c.args.count) told.1)
     refl
@@ -157,7 +157,7 @@ select_typed-returns g t c =
     let told = rw c.without_sets.ensures at c.in_ok-x.ensures in
     node_ends (typing names at (select c.args.place e c.args.high c.args.low)) c.answered-ty.result (OfShape.Select c.in_ok-inner.inner c.args.high c.args.low) false false
     (λ u. flat_select u (flat_tree names leaf (single at) c.args.under e) c.args.high c.args.low) _ c.node.result
-    (passed_operand c.answered-ty.result (typing names (single at) e) x (select_step c.args.place c.args.high c.args.low) told.0 (c.answered-ty.ensures (select_step c.args.place c.args.high c.args.low x) c.check_selection.ensures))
+    (passed_operand c.answered-ty.result (typing names (single at) e) x (select_step c.args.place c.args.high c.args.low) told.0 (c.answered-ty.ensures.typing (select_step c.args.place c.args.high c.args.low x) c.check_selection.ensures))
     c.node.ensures refl
     (λ u. shape_select c.in_ok-inner.inner c.args.high c.args.low u ∙ ap (λ v. flat_select u (plain_flat v) c.args.high c.args.low) c.in_ok-inner.ensures.ok ∙ ap (λ v. flat_select u v c.args.high c.args.low) told.1)
     refl
@@ -179,7 +179,7 @@ next_typed-returns g t c =
     let x = option_map seen c.in_ok-x.x.ty in
     let told = rw c.under_next.ensures at c.in_ok-x.ensures in
     retyped_ends (typing names at (next c.args.place e)) c.in_ok-x.x c.answered-ty.result (flat_tree names leaf under_next true e) (is_set e) c.retyped.result
-    (passed_operand c.answered-ty.result (typing names under_next e) x (next_step c.args.place at) told.0 (c.answered-ty.ensures (next_step c.args.place at x) c.check_next.ensures))
+    (passed_operand c.answered-ty.result (typing names under_next e) x (next_step c.args.place at) told.0 (c.answered-ty.ensures.typing (next_step c.args.place at x) c.check_next.ensures))
     c.retyped.ensures told.1 told.2
 
 -- ---- several operands
@@ -403,7 +403,7 @@ fronts_typed-returns-in_err-whole-clause-types g t c =
     fronts_stop names at c.args.place w y c.args.links.now (drop (c.loop-link.link-index + 1) c.args.links.now) c.link-item.result c.loop-link.link-index
     c.in_err-whole.field-0.0 (linked names at c.args.place (passed (option_map seen c.args.first)) (links_of (map plain_link c.args.links.now))) (mapped type_of_rest c.from_residual-in_err-whole.result) s
     c.loop-link.invariant.same (err_mapped type_of_rest c.from_residual-in_err-whole.result c.in_err-whole.field-0.0 c.from_residual-in_err-whole.ensures.1) told.0
-    (c.in_err-whole.ensures (front_step c.link-item.result.op at c.args.place w y (plain c.link-item.result.operand)) c.check_front.ensures)
+    (c.in_err-whole.ensures.typing (front_step c.link-item.result.op at c.args.place w y (plain c.link-item.result.operand)) c.check_front.ensures)
 
 pub fronts_typed-loop-link-preserved : goal.fronts_typed-loop-link-preserved
 fronts_typed-loop-link-preserved g t c =
@@ -422,7 +422,7 @@ fronts_typed-loop-link-preserved g t c =
           fronts_go names at c.args.place w y (option_map seen c.in_ok-whole.whole) xs rest c.link-item.result c.loop-link.link-index
           (outcome (linked names at c.args.place (passed (option_map seen c.args.first)) (links_of (map plain_link xs)))) s c.loop-link.invariant.same
           told.0
-          (c.in_ok-whole.ensures (front_step c.link-item.result.op at c.args.place w y (plain c.link-item.result.operand)) c.check_front.ensures);
+          (c.in_ok-whole.ensures.typing (front_step c.link-item.result.op at c.args.place w y (plain c.link-item.result.operand)) c.check_front.ensures);
       links = grown (map plain_flat_link c.loop-link.operands.items) (map plain_flat_link c.add_link.new.links.items) (map (link_flat names leaf at c.args.under) xs) (c.link-item.result.op, plain_flat c.in_ok-x.x.expr)
           (link_flat names leaf at c.args.under) c.link-item.result xs rest c.loop-link.link-index c.in_ok-add_link.ensures (ap (λ z. (c.link-item.result.op, z)) told.1) s c.loop-link.invariant.links;
     }
