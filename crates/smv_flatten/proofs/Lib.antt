@@ -1,4 +1,3 @@
-pub mod InvariantLengths
 pub mod Items
 pub mod Models
 pub mod ItemNumbers

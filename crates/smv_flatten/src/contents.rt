@@ -1,7 +1,10 @@
 // The items and formulas of a model, made as its types are checked.
-ghost use Rattle.std.specs.Prelude.{◌≡◌, ◌<◌, ◌^◌, length, map, option_map, IfOk};
+ghost use Rattle.std.specs.Prelude.{◌≡◌, ◌<◌, ◌^◌, [], length, map, option_map, IfOk};
 ghost use Rattle.std.specs.List.{AllByRecursion};
 ghost use Rattle.smv_meaning.specs.Checked.{type_checks_of};
+ghost use Rattle.smv_meaning.specs.Checks.{first_failing};
+ghost use Rattle.smv_meaning.specs.Names.{found_in};
+ghost use Rattle.smv_meaning.specs.Phases.{assignment_checks};
 ghost use Rattle.smv_meaning.specs.Bodies.{placed_bodies, IsBodyOrder};
 ghost use Rattle.smv_instances.specs.View.{instance_plain};
 ghost use Rattle.smv_intervals.specs.View.{seen};
@@ -13,6 +16,7 @@ ghost use Rattle.smv_items.specs.laws.Declarations.{DiffersInside};
 ghost use Rattle.smv_flat.specs.FlatForms.{forms_of};
 ghost use Rattle.smv_flat.specs.FlatFormulas.{form_plain};
 ghost use Rattle.smv_flat_laws.specs.FlatOrders.{item_order};
+ghost use Rattle.smv_names.specs.Assigning.{numbered_checks};
 ghost use Rattle.smv_names.specs.Outcome.{Settles};
 ghost use Rattle.smv_references.specs.View.{body_plain};
 
@@ -24,7 +28,7 @@ use smv_instances::Table;
 use smv_intervals::Ty;
 use smv_items::{FlatItem, Origins, Symbols, dotted_paths, numbers_of, origins_in, symbols_in};
 use smv_model_types::types_checked;
-use smv_names::NamesEnd;
+use smv_names::{NamesEnd, NumberedAssignment};
 use smv_references::Body;
 use std::alloc::Global;
 use text_core::{List, Name, NoMemory};
@@ -53,10 +57,11 @@ fn sources_in<'a>(alloc: Global, table: &Table<'a>) -> Result<Sources<'a>, NoMem
     })
 }
 
-// The formulas, the types of the items, and the order of the items with bodies.
+// The formulas, the assignments among them, the types of the items, and the order of the items with bodies.
 #[derive(Drop)]
 struct Formed {
     formulas: Vec<FlatFormula>,
+    assigned: Vec<NumberedAssignment>,
     types: Vec<Option<Ty>>,
     order: List<usize>,
 }
@@ -79,6 +84,7 @@ fn formed_in<'a>(
     ensures checks { Settles result (type_checks_of (map instance_plain table.now)) }
     ensures types { IfOk result (λ f. map (option_map seen) f.types.items ≡ map (λ m. content_type (map instance_plain table.now) m.content) (origins_of (map instance_plain table.now))) }
     ensures formulas { IfOk result (λ f. map form_plain f.formulas.items ≡ forms_of (map instance_plain table.now)) }
+    ensures assigned { IfOk result (λ f. first_failing (numbered_checks [] f.assigned.items) ≡ first_failing (assignment_checks (found_in (map instance_plain table.now)) (map instance_plain table.now))) }
     ensures order { IfOk result (λ f. f.order ≡ item_order (map instance_plain table.now) order.now) }
 {
     let origins = sources.origins.as_slice();
@@ -95,17 +101,20 @@ fn formed_in<'a>(
     let order = item_order(alloc, bodies, order.as_slice(), &numbers.bodies)?;
     Ok(Formed {
         formulas: built.forms,
+        assigned: built.assigned,
         types: built.types,
         order,
     })
 }
 
-/// The items, symbols and formulas of a model, and the order of the items with bodies.
+/// The items, symbols and formulas of a model, the assignments among the formulas, and the order of the items with
+/// bodies.
 #[derive(Drop)]
 pub(crate) struct Contents {
     pub(crate) items: Vec<FlatItem>,
     pub(crate) symbols: NameSet,
     pub(crate) formulas: Vec<FlatFormula>,
+    pub(crate) assigned: Vec<NumberedAssignment>,
     pub(crate) order: List<usize>,
 }
 
@@ -126,6 +135,7 @@ pub(crate) fn contents_of<'a>(
     ensures items { IfOk result (λ x. map item_plain x.items.items ≡ map (flat_item_of (map instance_plain table.now)) (origins_of (map instance_plain table.now))) }
     ensures symbols { IfOk result (λ x. x.symbols ≡ symbols_of (map instance_plain table.now)) }
     ensures formulas { IfOk result (λ x. map form_plain x.formulas.items ≡ forms_of (map instance_plain table.now)) }
+    ensures assigned { IfOk result (λ x. first_failing (numbered_checks [] x.assigned.items) ≡ first_failing (assignment_checks (found_in (map instance_plain table.now)) (map instance_plain table.now))) }
     ensures order { IfOk result (λ x. x.order ≡ item_order (map instance_plain table.now) order.now) }
 {
     let sources = sources_in(alloc, table)?;
@@ -140,6 +150,7 @@ pub(crate) fn contents_of<'a>(
         items,
         symbols: symbols.into_names(),
         formulas: formed.formulas,
+        assigned: formed.assigned,
         order: formed.order,
     })
 }

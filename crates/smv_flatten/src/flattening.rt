@@ -23,14 +23,13 @@ ghost use Rattle.smv_flatten.specs.FlatModel.{flat_plain, AreOfModel, IsRead};
 ghost use Rattle.smv_flatten.specs.Refusing.{Decides};
 
 use crate::contents::{Contents, contents_of};
-use crate::counts::{invariant_count, weight_in};
 use crate::ends::FlatEnd;
 use crate::form::Flat;
 use crate::sequences::{FlatFormulas, FlatItems};
 use smv_instances::Table;
 use smv_names::{
-    NamesEnd, assignments_checked, cycles_checked, declarations_checked, invariants_checked,
-    modules_checked, paths_checked, sizes_checked,
+    NamesEnd, SizedModel, assignments_checked, cycles_checked, declarations_checked,
+    invariants_checked, modules_checked, paths_checked, sizes_checked,
 };
 use smv_references::{Body, bodies_in};
 use smv_text::Source;
@@ -38,19 +37,20 @@ use smv_width::width_of;
 use std::alloc::Global;
 use text_core::List;
 
-// The first three phases, which return the table of the instances.
+// The first three phases, which return the table of the instances and the weight.
 #[tactic(auto, using(crate::specs::laws::Composing::ends, crate::specs::laws::Composing::ends_behind, crate::specs::laws::Composing::both_pass))]
-fn sized<'a>(alloc: Global, source: &'a Source) -> Result<Table<'a>, NamesEnd>
+fn sized<'a>(alloc: Global, source: &'a Source) -> Result<SizedModel<'a>, NamesEnd>
     requires read { IsRead (plain_source source.now) }
     ensures checks { Settles result (early_checks (plain_source source.now)) }
-    ensures table { IfOk result (λ t. map instance_plain t ≡ instances_of (plain_source source.now)) }
-    ensures differ { IfOk result (λ t. AllByRecursion DiffersInside (map instance_plain t)) }
-    ensures few { IfOk result (λ t. AreFew (map instance_plain t)) }
+    ensures table { IfOk result (λ s. map instance_plain s.table ≡ instances_of (plain_source source.now)) }
+    ensures weight { IfOk result (λ s. s.weight ≡ sum_by (λ at. at.module.tokens) (map instance_plain s.table)) }
+    ensures differ { IfOk result (λ s. AllByRecursion DiffersInside (map instance_plain s.table)) }
+    ensures few { IfOk result (λ s. AreFew (map instance_plain s.table)) }
 {
     modules_checked(alloc, source)?;
     declarations_checked(alloc, source)?;
-    let table = sizes_checked(alloc, source)?;
-    Ok(table)
+    let model = sizes_checked(alloc, source)?;
+    Ok(model)
 }
 
 // The definitions and actuals, and an order in which each comes after those to which it refers.
@@ -75,13 +75,14 @@ fn ordered_in<'a>(alloc: Global, table: &Table<'a>) -> Result<Ordered<'a>, Names
 
 // The flat form of these instances.
 #[tactic(auto, using(crate::proofs::Models::ordered))]
-fn flattened(table: &Table, contents: Contents) -> Flat
+fn flattened(table: &Table, contents: Contents, weight: u32, invariants: u32) -> Flat
     requires items { map item_plain contents.items.items ≡ map (flat_item_of (map instance_plain table.now)) (origins_of (map instance_plain table.now)) }
     requires symbols { contents.symbols ≡ symbols_of (map instance_plain table.now) }
     requires formulas { map form_plain contents.formulas.items ≡ forms_of (map instance_plain table.now) }
     requires order { IsItemOrder (flat_of (map instance_plain table.now)) contents.order }
     requires model { AreOfModel (map instance_plain table.now) }
-    requires few { AreFew (map instance_plain table.now) }
+    requires weight { weight ≡ sum_by (λ at. at.module.tokens) (map instance_plain table.now) }
+    requires invariants { invariants ≡ length (invariants_in (map instance_plain table.now)) }
     ensures form { flat_plain result ≡ flat_of (map instance_plain table.now) }
     ensures width { result.width ≡ width_of (flat_of (map instance_plain table.now)) }
     ensures weight { result.weight ≡ sum_by (λ at. at.module.tokens) (map instance_plain table.now) }
@@ -94,8 +95,8 @@ fn flattened(table: &Table, contents: Contents) -> Flat
         formulas: FlatFormulas::of(contents.formulas),
         order: contents.order,
         width,
-        weight: weight_in(table),
-        invariants: invariant_count(table),
+        weight,
+        invariants,
     }
 }
 
@@ -114,10 +115,11 @@ pub fn flatten(alloc: Global, source: &Source, needed: u32) -> Result<Flat, Flat
     ensures weight { IfOk result (λ f. f.weight ≡ weight_of (plain_source source.now)) }
     ensures invariants { IfOk result (λ f. f.invariants ≡ length (invariants_in (instances_of (plain_source source.now)))) }
 {
-    let table = sized(alloc, source)?;
-    let ordered = ordered_in(alloc, &table)?;
-    let contents = contents_of(alloc, &table, ordered.bodies.as_slice(), &ordered.order)?;
-    assignments_checked(alloc, &table)?;
-    invariants_checked(&table, source.end, needed)?;
-    Ok(flattened(&table, contents))
+    let model = sized(alloc, source)?;
+    let table = &model.table;
+    let ordered = ordered_in(alloc, table)?;
+    let contents = contents_of(alloc, table, ordered.bodies.as_slice(), &ordered.order)?;
+    assignments_checked(alloc, &contents.assigned)?;
+    let invariants = invariants_checked(table, source.end, needed)?;
+    Ok(flattened(table, contents, model.weight, invariants))
 }

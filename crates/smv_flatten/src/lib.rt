@@ -2,7 +2,6 @@
 #![tactic(auto)]
 
 mod contents;
-mod counts;
 mod ends;
 mod flattening;
 mod form;

@@ -1,7 +1,6 @@
 // Copies of the members of enumerations.
 ghost use Rattle.std.specs.Prelude.{◌≡◌, IfOk};
-ghost use Rattle.smv_text.specs.View.{plain_domain};
-ghost use Rattle.smv_items.specs.FlatItems.{domain_members, content_members};
+ghost use Rattle.smv_items.specs.FlatItems.{content_members};
 ghost use Rattle.smv_items.specs.FlatOrigins.{content_plain};
 
 use smv_items::Content;
@@ -32,18 +31,6 @@ fn copied(alloc: Global, members: &Members) -> Result<Members, NoMemory>
     Ok(copy)
 }
 
-fn domain_members(alloc: Global, domain: &Domain) -> Result<Members, NoMemory>
-    ensures { IfOk result (λ ms. ms ≡ domain_members (plain_domain domain.now)) }
-{
-    match domain {
-        Domain::Members(members) => copied(alloc, members),
-        Domain::Boolean => Ok(Members::new(alloc)),
-        Domain::Between(_, _) => Ok(Members::new(alloc)),
-        Domain::Bits(_) => Ok(Members::new(alloc)),
-        Domain::Instance(_, _) => Ok(Members::new(alloc)),
-    }
-}
-
 /// Returns the members of an enumeration in the order of the text.
 ///
 /// The list is empty for any other variable and for a body.
@@ -51,8 +38,7 @@ pub(crate) fn members_of(alloc: Global, content: &Content) -> Result<Members, No
     ensures { IfOk result (λ ms. ms ≡ content_members (content_plain content.now)) }
 {
     match content {
-        Content::Variable(_, domain) => domain_members(alloc, domain),
-        Content::Definition(_, _) => Ok(Members::new(alloc)),
-        Content::Actual(_, _) => Ok(Members::new(alloc)),
+        Content::Variable(_, Domain::Members(members)) => copied(alloc, members),
+        _ => Ok(Members::new(alloc)),
     }
 }

@@ -1,5 +1,5 @@
 -- How deep leads are.
-use Rattle.std.proofs.Common.{◌≡◌, ℕ, ◌+◌, ◌<◌, ◌≤◌, ◌-◌, Bool, true, false, ◌&&◌, ◌==◌, if◌then◌else◌, List, [], ◌∷◌, length, Option, Some, None, is_some, bytes_eq, refl, sym, ap, ◌∙◌, subst, arith}
+use Rattle.std.proofs.Common.{◌≡◌, ℕ, ◌+◌, ◌<◌, ◌≤◌, Bool, true, false, ◌&&◌, ◌==◌, if◌then◌else◌, List, [], ◌∷◌, length, Option, Some, None, is_some, bytes_eq, refl, sym, ap, ◌∙◌, subst, arith}
 use mathlib.Core.Logic.{⊎_elim}
 use Rattle.std.specs.List.{list_any}
 use Rattle.std.proofs.lemmas.Bool.{eq-eqb}
@@ -17,7 +17,7 @@ use Rattle.smv_instances.proofs.LeadLemmas.{key_same}
 -- a lead that is kept
 pub lead_kept : (t : List Instance) (m : InstanceRows Lead) (i : ℕ) (x : List ℕ) (o : Option Lead) → Right t m → is_alias (local t i x) ≡ true → o ≡ row_in m i x → LeadAt t m i x o
 lead_kept t m i x None r a e = (a, sym e)
-lead_kept t m i x (Some lead) r a e = (subst (NameLeads t i x) (sym e) (r i x), λ n h. subst (IsShallow n) (sym e) (h i x))
+lead_kept t m i x (Some lead) r a e = let k : NameLeads t i x (Some lead) = subst (NameLeads t i x) (sym e) (r i x) in (k.0, λ n h. subst (IsShallow n) (sym e) (h i x), k.1)
 
 at_most_one : (b : Bool) → (if b then 1 else 0) ≤ 1
 at_most_one true = omega arith

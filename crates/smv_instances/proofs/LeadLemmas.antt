@@ -1,5 +1,5 @@
 -- Steps of a walk over leads.
-use Rattle.std.proofs.Common.{◌≡◌, ℕ, zero, suc, ◌+◌, ◌<◌, ◌≤◌, nat_lt, Bool, true, false, not, ◌&&◌, ◌||◌, ◌==◌, if◌then◌else◌, List, [], ◌∷◌, ◌++◌, take, length, Option, Some, None, bytes_eq, refl, sym, ap, ◌∙◌, subst, arith}
+use Rattle.std.proofs.Common.{◌≡◌, ℕ, zero, suc, ◌+◌, ◌<◌, ◌≤◌, nat_lt, Bool, true, false, ◌&&◌, ◌||◌, ◌==◌, if◌then◌else◌, List, [], ◌∷◌, ◌++◌, take, length, Option, Some, None, bytes_eq, refl, sym, ap, ◌∙◌, subst, arith}
 use mathlib.Core.Logic.{⊎_elim}
 use Rattle.std.specs.Prelude.{slice_index_or, position, IfSome}
 use Rattle.std.specs.List.{list_any}
@@ -14,12 +14,12 @@ use Rattle.smv_instances.specs.declared.leads.Lead.{Lead}
 use Rattle.smv_instances.specs.declared.leads.Key.{Key}
 use Rattle.smv_meaning.specs.Instances.{Instance}
 use Rattle.smv_meaning.specs.Bodies.{instance_within}
-use Rattle.smv_meaning.specs.Names.{Local, alias, inner, is_child, local, Found, variable_at, body_at, instance_at, symbol_of, cyclic, none, at_child, landed, look, steps_of, onward, walk, single, through, found_in, resolved}
+use Rattle.smv_meaning.specs.Names.{Local, alias, inner, is_child, local, Found, variable_at, body_at, instance_at, symbol_of, cyclic, none, at_child, landed, look, steps_of, onward, walk, single, resolved}
 use Rattle.name_maps.specs.Rows.{row_in}
-use Rattle.smv_instances.specs.Leads.{until, is_alias, LeadsTo, NameLeads, Right, IsOpen, StaysClosed, IsWaiting, AllWait, IsClosed, is_key, WalkOf, KeyWalk, are_same_single, are_one_name}
+use Rattle.smv_instances.specs.Leads.{until, is_alias, LeadsTo, NameLeads, Right, IsOpen, StaysClosed, IsWaiting, AllWait, IsClosed, is_key, WalkOf, KeyWalk}
 use Rattle.smv_instances.specs.declared.leads.Walk.{Walk}
 use Rattle.smv_instances.specs.declared.leads.Walk.TheVariants.{Ends, Waits}
-use Rattle.smv_instances.specs.View.{found_plain}
+use Rattle.smv_instances.specs.View.{found_plain, Declares}
 use Rattle.smv_meaning.specs.laws.Booleans.{both_true, or_true}
 use Rattle.text_core.proofs.Truths.{or_false as or_nothing}
 
@@ -62,14 +62,14 @@ unfolding look
 alias_waits t i x j p n e h = ap (landed t (look t n) i x) (sym e) ∙ h
 
 -- the leads stay right where one more is kept
-pub right_more : (t : List Instance) (was now : InstanceRows Lead) (i : ℕ) (x : List ℕ) (lead : Lead) → Right t was → LeadsTo t (λ n. look t n i x) lead
+pub right_more : (t : List Instance) (was now : InstanceRows Lead) (i : ℕ) (x : List ℕ) (lead : Lead) → Right t was → LeadsTo t (λ n. look t n i x) lead → Declares t lead.target
     → ((j : ℕ) (y : List ℕ) → row_in now j y ≡ (if i == j && bytes_eq x y then Some lead else row_in was j y)) → Right t now
-right_more t was now i x lead h l k j y = subst (NameLeads t j y) (sym (k j y)) (by (i == j && bytes_eq x y) refl)
+right_more t was now i x lead h l d k j y = subst (NameLeads t j y) (sym (k j y)) (by (i == j && bytes_eq x y) refl)
   where
     by : (b : Bool) → (i == j && bytes_eq x y) ≡ b → NameLeads t j y (if b then Some lead else row_in was j y)
     by true e =
         let b = both_true (i == j) (bytes_eq x y) e in
-        subst (λ z. LeadsTo t (λ n. look t n j z) lead) ((bytes_eq-Decides x y).0 b.1) (subst (λ a. LeadsTo t (λ n. look t n a x) lead) (eqb-true i j b.0) l)
+        (subst (λ z. LeadsTo t (λ n. look t n j z) lead) ((bytes_eq-Decides x y).0 b.1) (subst (λ a. LeadsTo t (λ n. look t n a x) lead) (eqb-true i j b.0) l), d)
     by false e = h j y
 
 -- what is open where each open alias comes to an open alias leads into a cycle
@@ -104,7 +104,7 @@ wait_more t was now ks k n key e h is same own before = subst (λ m. AllWait t m
         (or_true (list_any (is_key i x) (take k ks)) (is_key i x key) b)
 
 pub walk_key : (t : List Instance) (m : InstanceRows Lead) (i : ℕ) (x : List ℕ) (j : ℕ) (p : Path) (w : Walk) → alias j p ≡ local t i x → row_in m i x ≡ None → WalkOf t m (λ n. resolved t (look t n) j p) w → KeyWalk t m i x (Some w)
-walk_key t m i x j p (Ends lead) e o h = (alias_leads t i x j p lead.depth (found_plain t lead.target) e h.0, (ap is_alias (sym e), o), h.1)
+walk_key t m i x j p (Ends lead) e o h = (alias_leads t i x j p lead.depth (found_plain t lead.target) e h.0, (ap is_alias (sym e), o), h.1, h.2)
 walk_key t m i x j p (Waits key) e o h = (h.0, λ n c. alias_waits t i x j p n e (h.1 n c))
 
 pub one_onward : (m : Found) → onward m true (λ c. instance_at c) ≡ m
@@ -131,31 +131,6 @@ one_ends t i x lead h n = one_walked (look t n) i x ∙ h n
 pub child_reached : (t : List Instance) (i : ℕ) (x : List ℕ) (c : Option ℕ) → inner ≡ local t i x → c ≡ position (is_child i x) t → IfSome c (λ k. (n : ℕ) → look t n i x ≡ until 1 n (instance_at k))
 child_reached t i x None e h = record {}
 child_reached t i x (Some k) e h = look_one t i x inner (instance_at k) e (λ f. ap at_child (sym h))
-
--- single names that are one are the same lists
-same_single_names : (xs ys : List (List ℕ)) → are_same_single xs ys ≡ true → xs ≡ ys
-same_single_names [] ys h = absurd (false≢true h)
-same_single_names (x ∷ y ∷ xs) ys h = absurd (false≢true h)
-same_single_names (x ∷ []) [] h = absurd (false≢true h)
-same_single_names (x ∷ []) (y ∷ z ∷ ys) h = absurd (false≢true h)
-same_single_names (x ∷ []) (y ∷ []) h = ap (λ n. n ∷ []) ((bytes_eq-Decides x y).0 h)
-
-neither : (a b c : Bool) → (not a && (not b && c)) ≡ true → (a ≡ b) × (c ≡ true)
-neither true b c h = absurd (false≢true h)
-neither false true c h = absurd (false≢true h)
-neither false false c h = (refl, h)
-
--- paths of the same names lead to the same
-found_same : (t : List Instance) (i : ℕ) (p q : Path) → p.from_self ≡ q.from_self → p.names ≡ q.names → found_in t i p ≡ found_in t i q
-found_same t i p q e f =
-    ap (λ b. if b then walk (look t (steps_of t)) i p.names else through t (look t (steps_of t)) i p.names) e
-    ∙ ap (λ ns. if q.from_self then walk (look t (steps_of t)) i ns else through t (look t (steps_of t)) i ns) f
-
--- paths that are the same one name lead to the same
-pub one_name_leads : (p q : Path) → are_one_name p q ≡ true → (t : List Instance) (i : ℕ) → found_in t i p ≡ found_in t i q
-one_name_leads p q h t i =
-    let b = neither p.from_self q.from_self (are_same_single p.names q.names) h in
-    found_same t i p q b.0 (same_single_names p.names q.names b.1)
 
 -- where one more lead is kept nothing opens
 pub stays_closed : (t : List Instance) (was now : InstanceRows Lead) (i : ℕ) (x : List ℕ) (lead : Lead)

@@ -1,7 +1,6 @@
 -- Where aliases lead, each found once: how deep the aliases on its way lead into one another, and what is at the end.
-use Rattle.std.specs.Prelude.{◌≡◌, ◌≤◌, ℕ, suc, ◌+◌, ◌==◌, ◌&&◌, nat_lt, Bool, true, false, not, List, [], ◌∷◌, if◌then◌else◌, Option, Some, None, is_some, bytes_eq}
+use Rattle.std.specs.Prelude.{◌≡◌, ◌≤◌, ℕ, suc, ◌+◌, ◌==◌, ◌&&◌, nat_lt, Bool, true, false, List, [], ◌∷◌, if◌then◌else◌, Option, Some, None, is_some, bytes_eq}
 use Rattle.std.specs.List.{list_any}
-use Rattle.smv_text.specs.declared.tree.Path.{Path}
 use Rattle.name_maps.specs.declared.instance_rows.InstanceRows.{InstanceRows}
 use Rattle.smv_instances.specs.declared.leads.Lead.{Lead}
 use Rattle.smv_instances.specs.declared.leads.Key.{Key}
@@ -10,7 +9,7 @@ use Rattle.smv_instances.specs.declared.leads.Walk.TheVariants.{Ends, Waits}
 use Rattle.smv_meaning.specs.Instances.{Instance}
 use Rattle.smv_meaning.specs.Names.{Local, alias, local, Found, cyclic, look}
 use Rattle.name_maps.specs.Rows.{row_in}
-use Rattle.smv_instances.specs.View.{found_plain}
+use Rattle.smv_instances.specs.View.{found_plain, Declares}
 
 -- cyclic where fewer steps are taken
 abbrev pub until : ℕ → ℕ → Found → Found
@@ -25,7 +24,7 @@ LeadsTo t g lead = (n : ℕ) → g n ≡ until lead.depth n (found_plain t lead.
 
 abbrev pub NameLeads : List Instance → ℕ → List ℕ → Option Lead → Type 0
 NameLeads t i x None = Unit {0}
-NameLeads t i x (Some lead) = LeadsTo t (λ n. look t n i x) lead
+NameLeads t i x (Some lead) = LeadsTo t (λ n. look t n i x) lead × Declares t lead.target
 
 -- each lead that is kept is right
 abbrev pub Right : List Instance → InstanceRows Lead → Type 0
@@ -53,11 +52,11 @@ IsWithin m depth = (n : ℕ) → AreShallow m n → depth ≤ n + 1
 
 abbrev pub LeadAt : List Instance → InstanceRows Lead → ℕ → List ℕ → Option Lead → Type 0
 LeadAt t m i x None = IsOpen t m i x
-LeadAt t m i x (Some lead) = LeadsTo t (λ n. look t n i x) lead × IsWithin m lead.depth
+LeadAt t m i x (Some lead) = LeadsTo t (λ n. look t n i x) lead × IsWithin m lead.depth × Declares t lead.target
 
 -- a walk ends, or comes to an open alias
 abbrev pub WalkOf : List Instance → InstanceRows Lead → (ℕ → Found) → Walk → Type 0
-WalkOf t m g (Ends lead) = LeadsTo t g lead × IsWithin m lead.depth
+WalkOf t m g (Ends lead) = LeadsTo t g lead × IsWithin m lead.depth × Declares t lead.target
 WalkOf t m g (Waits key) = IsOpen t m key.instance key.name.now × ((n : ℕ) → look t n key.instance key.name.now ≡ cyclic → g n ≡ cyclic)
 
 -- an open alias comes to an open alias
@@ -91,18 +90,9 @@ AreCounted m ks = AreShallow m (led m ks)
 -- the walk of a parameter that is an open alias
 abbrev pub KeyWalk : List Instance → InstanceRows Lead → ℕ → List ℕ → Option Walk → Type 0
 KeyWalk t m i x None = ¬ IsOpen t m i x
-KeyWalk t m i x (Some (Ends lead)) = ((n : ℕ) → look t n i x ≡ until (lead.depth + 1) n (found_plain t lead.target)) × IsOpen t m i x × IsWithin m lead.depth
+KeyWalk t m i x (Some (Ends lead)) = ((n : ℕ) → look t n i x ≡ until (lead.depth + 1) n (found_plain t lead.target)) × IsOpen t m i x × IsWithin m lead.depth × Declares t lead.target
 KeyWalk t m i x (Some (Waits key)) = IsOpen t m key.instance key.name.now × ((n : ℕ) → look t n key.instance key.name.now ≡ cyclic → look t (suc n) i x ≡ cyclic)
 
 -- each of these parameters that is open comes to an open alias
 abbrev pub AllWait : List Instance → InstanceRows Lead → List Key → Type 0
 AllWait t m ks = (i : ℕ) (x : List ℕ) → list_any (is_key i x) ks ≡ true → WaitsIfOpen t m i x
-
--- are both lists the same one name
-abbrev pub are_same_single : List (List ℕ) → List (List ℕ) → Bool
-are_same_single (n ∷ []) (m ∷ []) = bytes_eq n m
-are_same_single ns ms = false
-
--- are both paths the same one name, without `self`
-abbrev pub are_one_name : Path → Path → Bool
-are_one_name p q = not p.from_self && (not q.from_self && are_same_single p.names q.names)

@@ -1,5 +1,5 @@
 -- The plain forms of what the table of instances keeps.
-use Rattle.std.specs.Prelude.{ℕ, List, map, Option, Some, None}
+use Rattle.std.specs.Prelude.{◌≡◌, ℕ, List, map, Option, Some, None}
 use Rattle.std.specs.Borrow.{Bor}
 use Rattle.smv_text.specs.declared.tree.Module.{Module}
 use Rattle.smv_text.specs.Tree.{trees_of, PlainModule}
@@ -9,7 +9,7 @@ use Rattle.smv_instances.specs.declared.names.Known.TheVariants as OfKnown
 use Rattle.smv_instances.specs.declared.names.Target.{Target}
 use Rattle.smv_instances.specs.declared.names.Target.TheVariants as OfTarget
 use Rattle.smv_text.specs.declared.tree.Path.{Path}
-use Rattle.smv_meaning.specs.Names.{found_in, Local, alias, body_of, variable_of, inner, nothing, Found, variable_at, body_at, instance_at, symbol_of, cyclic, none, dotted_at}
+use Rattle.smv_meaning.specs.Names.{found_in, Local, local, alias, body_of, variable_of, inner, nothing, Found, variable_at, body_at, instance_at, symbol_of, cyclic, none, dotted_at}
 use Rattle.smv_instances.specs.declared.instances.Instance.{Instance as PartOf}
 use Rattle.smv_meaning.specs.Instances.{Instance}
 
@@ -43,6 +43,11 @@ found_plain t (OfTarget.Instance i) = instance_at i
 found_plain t (OfTarget.Symbol x) = symbol_of x.now
 found_plain t OfTarget.Cyclic = cyclic
 found_plain t OfTarget.Missing = none
+
+-- a variable is declared where the target says, as it says
+abbrev pub Declares : List Instance → Target → Type 0
+Declares t (OfTarget.Variable i x kind d) = local t i x.now ≡ variable_of kind (plain_domain d.now)
+Declares t m = Unit {0}
 
 abbrev pub found_here : List PartOf → ℕ → Path → Found
 found_here ts = found_in (map instance_plain ts)

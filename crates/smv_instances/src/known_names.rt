@@ -139,18 +139,6 @@ fn put_instance<'a>(
     Ok(())
 }
 
-/// Returns the number of names in all instances, saturated at `usize::MAX`.
-#[tactic(auto, using(crate::proofs::TableLemmas::names_on))]
-pub fn names_in_all<'a>(table: &[Instance<'a>]) -> usize
-    ensures { result ≡ min (sum_by (λ at. names_of at.«module») (map instance_plain table.now)) (2 ^ 64 - 1) }
-{
-    let mut count: usize = 0;
-    for part in table {
-        count = count.saturating_add(names_in(part.module));
-    }
-    count
-}
-
 // The number of names that have rows, saturated at `usize::MAX`.
 #[tactic(auto, using(crate::proofs::TableLemmas::stored_names_on))]
 fn stored_names_in_all<'a>(table: &[Instance<'a>]) -> usize

@@ -15,7 +15,6 @@ mod symbols;
 mod table;
 
 pub use instances::{Instance, instances as instance_list, path_below};
-pub use known_names::names_in_all;
 pub use modules::ModuleTable;
 pub use names::{Known, Target};
-pub use table::{Table, is_same_name};
+pub use table::Table;

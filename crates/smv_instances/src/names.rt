@@ -3,7 +3,7 @@ ghost use Rattle.std.specs.Prelude.{◌≡◌, List};
 ghost use Rattle.smv_text.specs.View.{plain, plain_domain};
 ghost use Rattle.smv_meaning.specs.Instances.{Instance as Specified};
 ghost use Rattle.smv_meaning.specs.Names.{of_actual, of_domain, ended};
-ghost use Rattle.smv_instances.specs.View.{local_plain, found_plain};
+ghost use Rattle.smv_instances.specs.View.{local_plain, found_plain, Declares};
 
 use smv_text::{Domain, Expr, Path, Shape, VarKind};
 
@@ -61,7 +61,8 @@ pub fn domain<'a>(kind: VarKind, d: &'a Domain) -> Known<'a>
 
 /// Returns the target, or `Missing` where the path continues after something other than an instance.
 pub fn last<'a>(found: Target<'a>, at_end: bool) -> Target<'a>
-    ensures { (t : List Specified) → found_plain t result ≡ ended (found_plain t found.entry) at_end }
+    ensures found { (t : List Specified) → found_plain t result ≡ ended (found_plain t found.entry) at_end }
+    ensures declared { (t : List Specified) → Declares t found.entry → Declares t result }
 {
     match found {
         Target::Cyclic => Target::Cyclic,

@@ -1,11 +1,11 @@
 // The table of a model's instances, with the meaning of their names.
-ghost use Rattle.std.specs.Prelude.{◌≡◌, ◌<◌, true, ℕ, List, length, map, position, slice_index_or, IfOk};
+ghost use Rattle.std.specs.Prelude.{◌≡◌, ◌<◌, true, List, length, map, position, slice_index_or, IfOk};
 ghost use Rattle.smv_text.specs.View.{plain_source};
 ghost use Rattle.smv_meaning.specs.Instances.{Instance as Specified, instances_of};
 ghost use Rattle.smv_meaning.specs.Bodies.{instance_within};
 ghost use Rattle.smv_meaning.specs.Names.{steps_of, local, is_child, has_symbol, found_in, look, single};
-ghost use Rattle.smv_instances.specs.Leads.{until, are_one_name, is_alias};
-ghost use Rattle.smv_instances.specs.View.{instance_plain, local_plain, found_plain};
+ghost use Rattle.smv_instances.specs.Leads.{until, is_alias};
+ghost use Rattle.smv_instances.specs.View.{instance_plain, local_plain, found_plain, Declares};
 
 use crate::aliases::leads_of;
 use crate::instances::{Instance, instances};
@@ -16,7 +16,7 @@ use name_maps::row_value_in;
 use smv_text::{Path, Source};
 use std::alloc::Global;
 use std::marker::Model;
-use text_core::{NoMemory, is_same};
+use text_core::NoMemory;
 
 /// The instances of a model, numbered in preorder, with the meaning of their names (NuSMV 2.6 User Manual, 2.3).
 #[derive(Drop)]
@@ -45,22 +45,10 @@ impl<'a> Model for Table<'a> {
     ghost invariant = { λ t. Right (map instance_plain t.parts) t.leads × IsClosed (map instance_plain t.parts) t.leads };
 }
 
-/// Returns whether both paths are the same single name.
-///
-/// If so, they have the same target in each instance.
-pub fn is_same_name(one: &Path, other: &Path) -> bool
-    ensures exact { result ≡ are_one_name one.now other.now }
-    ensures leads { result ≡ true → (t : List Specified) (i : ℕ) → found_in t i one.now ≡ found_in t i other.now }
-{
-    if one.from_self || other.from_self || one.names.len() != 1 || other.names.len() != 1 {
-        return false;
-    }
-    is_same(one.names.at(0).bytes(), other.names.at(0).bytes())
-}
-
 // The target of a lead, or a cycle where the lead needs more steps than the instances allow.
 fn reached<'p>(parts: &Parts, lead: Lead<'p>) -> Target<'p>
-    ensures { (t : List Specified) → found_plain t result ≡ until lead.entry.depth (steps_of (map instance_plain parts.now)) (found_plain t lead.entry.target) }
+    ensures found { (t : List Specified) → found_plain t result ≡ until lead.entry.depth (steps_of (map instance_plain parts.now)) (found_plain t lead.entry.target) }
+    ensures declared { (t : List Specified) → Declares t lead.entry.target → Declares t result }
 {
     if parts.steps() < lead.depth {
         Target::Cyclic
@@ -133,10 +121,11 @@ impl<'a> Table<'a> {
         self.parts.has_symbol(x)
     }
 
-    /// Returns the target of a name that is an alias, without a walk along its path.
-    pub fn target_of_alias(&self, i: usize, x: &[u8]) -> Target<'a>
+    // The target of a name that is an alias, without a walk along its path.
+    fn target_of_alias(&self, i: usize, x: &[u8]) -> Target<'a>
         requires alias { is_alias (local (map instance_plain self.now) i x.now) ≡ true }
-        ensures { found_plain (map instance_plain self.now) result ≡ look (map instance_plain self.now) (steps_of (map instance_plain self.now)) i x.now }
+        ensures found { found_plain (map instance_plain self.now) result ≡ look (map instance_plain self.now) (steps_of (map instance_plain self.now)) i x.now }
+        ensures declared { Declares (map instance_plain self.now) result }
     {
         match row_value_in(&self.leads, i, x) {
             Some(lead) => reached(&self.parts, lead),
@@ -149,7 +138,8 @@ impl<'a> Table<'a> {
     where
         'a: 'p,
         requires known { local_plain known ≡ local (map instance_plain self.now) i x.now }
-        ensures { found_plain (map instance_plain self.now) result ≡ single (map instance_plain self.now) (look (map instance_plain self.now) (steps_of (map instance_plain self.now))) i x.now (local_plain known.entry) }
+        ensures found { found_plain (map instance_plain self.now) result ≡ single (map instance_plain self.now) (look (map instance_plain self.now) (steps_of (map instance_plain self.now))) i x.now (local_plain known.entry) }
+        ensures declared { Declares (map instance_plain self.now) result }
     {
         match known {
             Known::Alias(_, _) => self.target_of_alias(i, x),
@@ -171,7 +161,8 @@ impl<'a> Table<'a> {
     pub fn target<'p>(&self, i: usize, path: &'p Path) -> Target<'p>
     where
         'a: 'p,
-        ensures { found_plain (map instance_plain self.now) result ≡ found_in (map instance_plain self.now) i path.now }
+        ensures found { found_plain (map instance_plain self.now) result ≡ found_in (map instance_plain self.now) i path.now }
+        ensures declared { Declares (map instance_plain self.now) result }
     {
         if !path.from_self && path.names.len() == 1 {
             let x = path.names.at(0).bytes();

@@ -46,13 +46,14 @@ instance_adds t i kind v b h = by v.domain h
 
 -- a variable has no formula
 pub variable_adds : (t : List Instance) (i : ℕ) (kind : VarKind) (v : PlainItem) (o : Option Ty) (old new : Building) → domain_declares_instance v.domain ≡ false
-    → option_map seen o ≡ variable_type v.domain → new.types.items ≡ old.types.items ++ o ∷ [] → new.forms ≡ old.forms → new.rest ≡ old.rest → new.kept ≡ old.kept → Adds t (variable_item i kind v) [] old new
-variable_adds t i kind v o old new h ty types forms rest kept = record {
+    → option_map seen o ≡ variable_type v.domain → new.types.items ≡ old.types.items ++ o ∷ [] → new.forms ≡ old.forms → new.rest ≡ old.rest → new.assigned ≡ old.assigned → new.kept ≡ old.kept → Adds t (variable_item i kind v) [] old new
+variable_adds t i kind v o old new h ty types forms rest assigned kept = record {
   types =
       ap (map (option_map seen)) types ∙ map-append (option_map seen) old.types.items (o ∷ [])
       ∙ ap (λ u. map (option_map seen) old.types.items ++ u ∷ []) ty ∙ ap (λ ts. map (option_map seen) old.types.items ++ ts) (sym (only v.domain h));
   forms = ap (λ fs. map form_plain fs.items) forms ∙ sym (append_none (map form_plain old.forms.items)) ∙ ap (λ fs. map form_plain old.forms.items ++ fs) (sym (none v.domain h));
   rest = ap (λ fs. map form_plain fs.items) rest ∙ sym (append_none (map form_plain old.rest.items));
+  assigned = ap (λ xs. xs.items) assigned ∙ sym (append_none old.assigned.items);
   kept = λ r. subst (AreKept t) (ap (λ ks. ks.items) (sym kept)) r;
 }
   where

@@ -1,5 +1,5 @@
 -- Checks one after another: the first that fails refuses.
-use Rattle.std.proofs.Common.{◌≡◌, ◌+◌, Bool, false, List, [], ◌∷◌, ◌++◌, Some, None, if◌then◌else◌, sym, ap, ◌∙◌}
+use Rattle.std.proofs.Common.{◌≡◌, Bool, false, List, [], ◌∷◌, ◌++◌, Some, None, if◌then◌else◌, sym, ap, ◌∙◌}
 use Rattle.text_core.specs.declared.place.Place.{Place}
 use Rattle.text_core.specs.declared.place.Refusal.{Refusal}
 use Rattle.smv_meaning.specs.Checks.{Check, check, first_failing}

@@ -5,21 +5,21 @@ use Rattle.std.proofs.lemmas.Bool.{eq-eqb}
 use Rattle.std.proofs.lemmas.Slice.Eq.{bytes_eq-Decides}
 use Rattle.std.proofs.lemmas.List.Folds.{list_all-append, list_any-append}
 use Rattle.smv_text.specs.declared.tree.Path.{Path}
-use Rattle.smv_text.specs.declared.tree.VarKind.{VarKind}
-use Rattle.smv_text.specs.Tree.{Tree, PlainDomain, boolean, members, between, bits, instance}
+use Rattle.smv_text.specs.Tree.{Tree}
 use Rattle.smv_meaning.specs.Types.{ExprType}
 use Rattle.smv_meaning.specs.Instances.{Instance}
 use Rattle.smv_meaning.specs.Expressions.{paths_of}
-use Rattle.smv_meaning.specs.Names.{Local, alias, body_of, variable_of, inner, nothing, local, Found, variable_at, body_at, instance_at, symbol_of, cyclic, none, is_child, is_end, at_child, dotted_at, onward, walk, has_symbol, single, through, landed, look, found_in, steps_of}
+use Rattle.smv_meaning.specs.Names.{Local, alias, body_of, variable_of, inner, nothing, local, Found, variable_at, body_at, instance_at, symbol_of, cyclic, none, is_child, is_end, at_child, onward, walk, has_symbol, single, through, landed, look, found_in, steps_of}
 use Rattle.smv_meaning.specs.Checks.{Named, Typing, typing}
-use Rattle.smv_meaning.specs.Naming.{in_body, unnamed, named_found}
+use Rattle.smv_meaning.specs.Naming.{in_body, named_found}
 use Rattle.smv_meaning.specs.Phases.{Body, body_same, body_here, from_instance, path_bodies, referred, refers}
 use Rattle.smv_meaning.specs.Settled.{Acyclic, has_body, types_in, NamesSettle, TypesSettle}
-use Rattle.smv_meaning.specs.Bodies.{instance_within, IsBodyOrder}
+use Rattle.smv_meaning.specs.Bodies.{IsBodyOrder}
 use Rattle.smv_meaning.specs.Orders.{numbered, is_listed, SameOn, TypesHangOnPaths, OrderIsComplete}
-use Rattle.smv_model_types.specs.Entries.{Entries, nameless, or_unnamed, variable_or, found_or, entry_or, entries_step, entries_walk, entries_single, entries_through, entries_names, HasEach, alias_put, put_for, variable_put, or_else, Becomes, IsPut, Right, IsEntered, Has}
+use Rattle.smv_model_types.specs.Entries.{Entries, or_unnamed, found_named, entries_names, HasEach, put_for, or_else, Becomes, IsPut, Right, IsEntered, Has}
 use Rattle.smv_meaning.specs.laws.Booleans.{absurd_bool}
-use Rattle.smv_model_types.proofs.Targets.{name_looked}
+use Rattle.smv_instances.proofs.LeadLemmas.{looked_once}
+use Rattle.smv_flat_laws.proofs.FlatFound.{Home, home_found}
 use Rattle.smv_laws.proofs.Cycles.{same_is}
 
 -- ---- tests
@@ -28,7 +28,7 @@ pub both_true : (a b : Bool) → (a && b) ≡ true → (a ≡ true) × (b ≡ tr
 both_true true b h = (refl, h)
 both_true false b h = absurd_bool h
 
-two_true : (a b : Bool) → a ≡ true → b ≡ true → (a && b) ≡ true
+pub two_true : (a b : Bool) → a ≡ true → b ≡ true → (a && b) ≡ true
 two_true true b h k = k
 two_true false b h k = absurd_bool h
 
@@ -42,49 +42,6 @@ looked t = look t (steps_of t)
 -- a name is what its declaration says
 abbrev pub Settled : List Instance → Type 0
 Settled t = (i : ℕ) (x : List ℕ) → looked t i x ≡ landed t (looked t) i x (local t i x)
-
--- ---- entries that have what a path goes through have the path
-
-variable_there : (t : List Instance) (y : List ℕ) (kind : VarKind) (d : PlainDomain) (o : Option Named) → ((n : Named) → o ≡ Some n → n ≡ meaning t (variable_at y kind d)) → variable_or kind d o ≡ meaning t (variable_at y kind d)
-variable_there t y kind (members ms) (Some n) r = r n refl
-variable_there t y kind (members ms) None r = refl
-variable_there t y kind boolean o r = refl
-variable_there t y kind (between low high) o r = refl
-variable_there t y kind (bits n) o r = refl
-variable_there t y kind (instance z es) o r = refl
-
-body_there : (t : List Instance) (m : Found) (o : Option Named) → is_some o ≡ true → ((n : Named) → o ≡ Some n → n ≡ meaning t m) → or_unnamed o ≡ meaning t m
-body_there t m (Some n) h r = r n refl
-body_there t m None h r = absurd_bool h
-
--- an alias is what it leads to
-found_right : (t : List Instance) (entries : Entries) → Right t entries → (i : ℕ) (x : List ℕ) (m : Found) → looked t i x ≡ m → IsEntered entries m → found_or entries (entries i x) m ≡ meaning t m
-found_right t entries r i x (variable_at y kind d) e h = variable_there t y kind d (entries i x) (λ n s. r i x n s ∙ ap (meaning t) e)
-found_right t entries r i x (body_at j y k b) e h = body_there t (body_at j y k b) (entries j y) h (λ n s. r j y n s ∙ ap (meaning t) (name_looked t i x j y k b e))
-found_right t entries r i x (instance_at c) e h = refl
-found_right t entries r i x (symbol_of y) e h = refl
-found_right t entries r i x cyclic e h = refl
-found_right t entries r i x none e h = refl
-
-entry_at : (t : List Instance) (entries : Entries) → Right t entries → (i : ℕ) (x : List ℕ) (l : Local) → looked t i x ≡ landed t (looked t) i x l → instance_within (looked t i x) ≡ None → IsEntered entries (looked t i x)
-    → entry_or t entries i x l ≡ meaning t (looked t i x)
-entry_at t entries r i x (alias j path) e w h = found_right t entries r i x (looked t i x) refl h
-entry_at t entries r i x (body_of j b) e w h = body_there t (looked t i x) (entries i x) (subst (IsEntered entries) e h) (r i x)
-entry_at t entries r i x (variable_of kind d) e w h = variable_there t (dotted_at t i x) kind d (entries i x) (λ n s. r i x n s ∙ ap (meaning t) e) ∙ sym (ap (meaning t) e)
-entry_at t entries r i x inner e w h = by (position (is_child i x) t) e
-  where
-    by : (c : Option ℕ) → looked t i x ≡ at_child c → unnamed ≡ meaning t (looked t i x)
-    by None s = sym (ap (meaning t) s)
-    by (Some c) s = let g : instance_within (looked t i x) ≡ Some c = ap instance_within s in cc
-entry_at t entries r i x nothing e w h = sym (ap (meaning t) e)
-
-ends_as : (t : List Instance) (b : Bool) (n : Named) (m : Found) → n ≡ meaning t m → (if b then n else unnamed) ≡ meaning t (if b then m else none)
-ends_as t true n m e = e
-ends_as t false n m e = refl
-
-ends_cyclic : (b : Bool) (n : Named) → n ≡ unnamed → (if b then n else unnamed) ≡ unnamed
-ends_cyclic true n e = e
-ends_cyclic false n e = refl
 
 -- entries that are right and have those of a list
 pub record Holds (t : List Instance) (entries : Entries) (ks : List Body) : Type 0 where
@@ -154,54 +111,28 @@ path_entered t entries ks s has i path h = by path.from_self
 
 -- ---- what they are
 
-step_right : (t : List Instance) (entries : Entries) (at_end : Bool) (n : Named) (m : Found) (rest : List (List ℕ)) (ks : List Body) → (instance_within m ≡ None → n ≡ meaning t m)
-    → ((c : ℕ) → list_all (is_listed ks) (path_bodies t (looked t) c rest) ≡ true → entries_walk t entries c rest ≡ meaning t (walk (looked t) c rest))
-    → list_all (is_listed ks) (from_instance m (λ c. path_bodies t (looked t) c rest)) ≡ true
-    → entries_step (instance_within m) at_end n (λ c. entries_walk t entries c rest) ≡ meaning t (onward m at_end (λ c. walk (looked t) c rest))
-step_right t entries at_end n (instance_at c) rest ks e ih h = ih c h
-step_right t entries at_end n (variable_at x kind d) rest ks e ih h = ends_as t at_end n (variable_at x kind d) (e refl)
-step_right t entries at_end n (body_at i x j b) rest ks e ih h = ends_as t at_end n (body_at i x j b) (e refl)
-step_right t entries at_end n (symbol_of x) rest ks e ih h = ends_as t at_end n (symbol_of x) (e refl)
-step_right t entries at_end n cyclic rest ks e ih h = ends_cyclic at_end n (e refl)
-step_right t entries at_end n none rest ks e ih h = ends_as t at_end n none (e refl)
+-- a definition or an actual is found where it stands
+path_looked : (t : List Instance) (i : ℕ) (path : Path) (j : ℕ) (y : List ℕ) (k : ℕ) (e : Tree) → found_in t i path ≡ body_at j y k e → looked t j y ≡ body_at j y k e
+path_looked t i path j y k e h =
+    let own : local t j y ≡ body_of k e = subst (Home t) h (home_found t i path) in
+    looked_once t j y (body_of k e) (body_at j y k e) (sym own) (λ f. refl)
 
-pub walk_right : (t : List Instance) (entries : Entries) (ks : List Body) → Settled t → Holds t entries ks → (names : List (List ℕ)) (i : ℕ) → list_all (is_listed ks) (path_bodies t (looked t) i names) ≡ true
-    → entries_walk t entries i names ≡ meaning t (walk (looked t) i names)
-walk_right t entries ks s r [] i h = refl
-walk_right t entries ks s r (x ∷ rest) i h =
-    let m = looked t i x in
-    let more : List Body = from_instance m (λ c. path_bodies t (looked t) c rest) in
-    let b = both_true (list_all (is_listed ks) (body_here i x (local t i x))) (list_all (is_listed ks) more) (sym (list_all-append (is_listed ks) (body_here i x (local t i x)) more) ∙ h) in
-    step_right t entries (is_end rest) (entry_or t entries i x (local t i x)) m rest ks
-    (λ w. entry_at t entries r.right i x (local t i x) (s i x) w (name_entered t entries ks r.has i x (local t i x) (s i x) b.0))
-    (λ c k. walk_right t entries ks s r rest c k) b.1
+body_there : (t : List Instance) (m : Found) (o : Option Named) → is_some o ≡ true → ((n : Named) → o ≡ Some n → n ≡ meaning t m) → or_unnamed o ≡ meaning t m
+body_there t m (Some n) h r = r n refl
+body_there t m None h r = absurd_bool h
 
-symbol_right : (t : List Instance) (b : Bool) (x : List ℕ) → named_found true nameless (if b then symbol_of x else none) ≡ meaning t (if b then symbol_of x else none)
-symbol_right t true x = refl
-symbol_right t false x = refl
-
-single_right : (t : List Instance) (entries : Entries) (i : ℕ) (x : List ℕ) (l : Local) → entries_walk t entries i (x ∷ []) ≡ meaning t (walk (looked t) i (x ∷ [])) → entries_single t entries i x l ≡ meaning t (single t (looked t) i x l)
-single_right t entries i x (alias j path) e = e
-single_right t entries i x (body_of j b) e = e
-single_right t entries i x (variable_of kind d) e = e
-single_right t entries i x inner e = e
-single_right t entries i x nothing e = symbol_right t (has_symbol t x) x
-
-through_right : (t : List Instance) (entries : Entries) (i : ℕ) (names : List (List ℕ)) → entries_walk t entries i names ≡ meaning t (walk (looked t) i names) → entries_through t entries i names ≡ meaning t (through t (looked t) i names)
-through_right t entries i [] e = e
-through_right t entries i (x ∷ []) e = single_right t entries i x (local t i x) e
-through_right t entries i (x ∷ y ∷ ys) e = e
-
-either_right : (t : List Instance) (b : Bool) (n m : Named) (f g : Found) → n ≡ meaning t f → m ≡ meaning t g → (if b then n else m) ≡ meaning t (if b then f else g)
-either_right t true n m f g p q = p
-either_right t false n m f g p q = q
+found_right : (t : List Instance) (entries : Entries) → Right t entries → (m : Found) → ((j : ℕ) (y : List ℕ) (k : ℕ) (e : Tree) → m ≡ body_at j y k e → looked t j y ≡ m) → IsEntered entries m → found_named entries m ≡ meaning t m
+found_right t entries r (variable_at y kind d) own h = refl
+found_right t entries r (body_at j y k e) own h = body_there t (body_at j y k e) (entries j y) h (λ n s. r j y n s ∙ ap (meaning t) (own j y k e refl))
+found_right t entries r (instance_at c) own h = refl
+found_right t entries r (symbol_of y) own h = refl
+found_right t entries r cyclic own h = refl
+found_right t entries r none own h = refl
 
 names_right : (t : List Instance) (entries : Entries) (ks : List Body) → Settled t → Holds t entries ks → (i : ℕ) (path : Path) → list_all (is_listed ks) (path_bodies t (looked t) i path.names) ≡ true
     → entries_names t entries i path ≡ meaning t (found_in t i path)
 names_right t entries ks s r i path h =
-    let e = walk_right t entries ks s r path.names i h in
-    either_right t path.from_self (entries_walk t entries i path.names) (entries_through t entries i path.names) (walk (looked t) i path.names) (through t (looked t) i path.names) e
-    (through_right t entries i path.names e)
+    found_right t entries r.right (found_in t i path) (λ j y k e is. path_looked t i path j y k e is ∙ sym is) (path_entered t entries ks s r.has i path h)
 
 -- ---- bodies
 
@@ -236,34 +167,15 @@ record Laws (t : List Instance) : Type 0 where
 laws : (t : List Instance) → Acyclic t → NamesSettle → TypesSettle → TypesHangOnPaths → Laws t
 laws t a n y h = record { settled = (n t a).1; types = y t a true; hang = h }
 
-alias_put_is : (m : Found) (p n : Named) → alias_put m p ≡ Some n → p ≡ n
-alias_put_is (variable_at y kind (members ms)) p n e = cc
-alias_put_is (variable_at y kind boolean) p n e = cc
-alias_put_is (variable_at y kind (between low high)) p n e = cc
-alias_put_is (variable_at y kind (bits m)) p n e = cc
-alias_put_is (variable_at y kind (instance m es)) p n e = cc
-alias_put_is (body_at i x j b) p n e = cc
-alias_put_is (instance_at c) p n e = cc
-alias_put_is (symbol_of x) p n e = cc
-alias_put_is cyclic p n e = cc
-alias_put_is none p n e = cc
-
 put_right : (t : List Instance) (entries : Entries) (ks : List Body) → Laws t → Holds t entries ks → (i : ℕ) (x : List ℕ) (l : Local) → list_all (is_listed ks) (referred t (looked t) l) ≡ true
-    → (n : Named) → put_for t entries i x l ≡ Some n → n ≡ meaning t (landed t (looked t) i x l)
-put_right t entries ks w r i x (alias j path) h n e = sym (alias_put_is (looked t i x) (entries_names t entries j path) n e) ∙ names_right t entries ks w.settled r j path h
+    → (n : Named) → put_for t entries l ≡ Some n → n ≡ meaning t (landed t (looked t) i x l)
+put_right t entries ks w r i x (alias j path) h n e = cc
 put_right t entries ks w r i x (body_of j b) h n e =
     let f : named_found true (entries_names t entries) (body_at 0 [] j b) ≡ n = cc in
     sym f ∙ bodies_same w.hang t entries i x j b (paths_right t entries ks w.settled w.types r j (paths_of b []) h)
 put_right t entries ks w r i x (variable_of kind d) h n e = cc
 put_right t entries ks w r i x inner h n e = cc
 put_right t entries ks w r i x nothing h n e = cc
-
-pub variable_right : (t : List Instance) (i : ℕ) (x : List ℕ) (l : Local) (n : Named) → variable_put l ≡ Some n → n ≡ meaning t (landed t (looked t) i x l)
-variable_right t i x (alias j path) n e = cc
-variable_right t i x (body_of j b) n e = cc
-variable_right t i x (variable_of kind d) n e = let f : named_found true nameless (variable_at [] kind d) ≡ n = cc in sym f
-variable_right t i x inner n e = cc
-variable_right t i x nothing n e = cc
 
 -- ---- the entries with what is put into them
 
@@ -305,12 +217,12 @@ entered_stays old new k o b cyclic h = tt
 entered_stays old new k o b none h = tt
 
 -- what one more leads to has an entry
-put_entered : (t : List Instance) (old new : Entries) (ks : List Body) → Settled t → Has t old ks → (i : ℕ) (x : List ℕ) (l : Local) → list_all (is_listed ks) (referred t (looked t) l) ≡ true → Becomes old (i, x) (put_for t old i x l) new
+put_entered : (t : List Instance) (old new : Entries) (ks : List Body) → Settled t → Has t old ks → (i : ℕ) (x : List ℕ) (l : Local) → list_all (is_listed ks) (referred t (looked t) l) ≡ true → Becomes old (i, x) (put_for t old l) new
     → looked t i x ≡ landed t (looked t) i x l → IsEntered new (looked t i x)
 put_entered t old new ks s has i x (alias j path) h b e =
-    subst (IsEntered new) (sym e) (entered_stays old new (i, x) (put_for t old i x (alias j path)) b (found_in t j path) (path_entered t old ks s has j path h))
+    subst (IsEntered new) (sym e) (entered_stays old new (i, x) (put_for t old (alias j path)) b (found_in t j path) (path_entered t old ks s has j path h))
 put_entered t old new ks s has i x (body_of j a) h b e =
-    subst (IsEntered new) (sym e) (ap is_some (b i x) ∙ some_put (body_same (i, x) (i, x)) (put_for t old i x (body_of j a)) (old i x) (same_self (i, x) (i, x) refl) refl)
+    subst (IsEntered new) (sym e) (ap is_some (b i x) ∙ some_put (body_same (i, x) (i, x)) (put_for t old (body_of j a)) (old i x) (same_self (i, x) (i, x) refl) refl)
 put_entered t old new ks s has i x (variable_of kind d) h b e = subst (IsEntered new) (sym e) tt
 put_entered t old new ks s has i x inner h b e = subst (IsEntered new) (sym e) (child_entered new (position (is_child i x) t))
 put_entered t old new ks s has i x nothing h b e = subst (IsEntered new) (sym e) tt
@@ -338,13 +250,9 @@ pub one_more : (t : List Instance) (old new : Entries) (k : Body) (ks : List Bod
 one_more t old new k ks a n y h before b r =
     let w = laws t a n y h in
     record {
-      right = right_becomes t old new k (put_for t old k.0 k.1 (local t k.0 k.1)) b r.right (λ m e. put_right t old ks w r k.0 k.1 (local t k.0 k.1) before m e ∙ sym (ap (meaning t) (w.settled k.0 k.1)));
-      has = has_becomes t old new k ks (put_for t old k.0 k.1 (local t k.0 k.1)) b r.has (put_entered t old new ks w.settled r.has k.0 k.1 (local t k.0 k.1) before b (w.settled k.0 k.1));
+      right = right_becomes t old new k (put_for t old (local t k.0 k.1)) b r.right (λ m e. put_right t old ks w r k.0 k.1 (local t k.0 k.1) before m e ∙ sym (ap (meaning t) (w.settled k.0 k.1)));
+      has = has_becomes t old new k ks (put_for t old (local t k.0 k.1)) b r.has (put_entered t old new ks w.settled r.has k.0 k.1 (local t k.0 k.1) before b (w.settled k.0 k.1));
     }
-
-pub variable_more : (t : List Instance) (old new : Entries) (i : ℕ) (x : List ℕ) → Acyclic t → NamesSettle → Becomes old (i, x) (variable_put (local t i x)) new → Right t old → Right t new
-variable_more t old new i x a n b r =
-    right_becomes t old new (i, x) (variable_put (local t i x)) b r (λ m e. variable_right t i x (local t i x) m e ∙ sym (ap (meaning t) ((n t a).1 i x)))
 
 path_bodies_listed : (t : List Instance) (ks : List Body) → ((k : Body) → has_body (local t k.0 k.1) ≡ true → is_listed ks k ≡ true) → (names : List (List ℕ)) (i : ℕ) → list_all (is_listed ks) (path_bodies t (looked t) i names) ≡ true
 path_bodies_listed t ks whole [] i = refl

@@ -11,7 +11,7 @@ use Rattle.smv_flat.specs.FlatForms.{forms_here, forms_from, forms_of}
 use Rattle.smv_flat.specs.FlatFormulas.{form_plain}
 use Rattle.smv_model_types.specs.declared.building.Building.{Building}
 use Rattle.smv_model_types.specs.Kept.{AreKept, Stand}
-use Rattle.smv_model_types.specs.Building.{InstanceAdds, IsReady}
+use Rattle.smv_model_types.specs.Building.{assigned_here, InstanceAdds, IsReady}
 use Rattle.smv_model_types.proofs.KeptLemmas.{stand_back, stand_whole}
 use Rattle.smv_model_types.proofs.Ready.{ready_first}
 
@@ -21,14 +21,16 @@ pub record Passes (t : List Instance) (i : ℕ) (rest : List Instance) (now : Bu
   pub types : map (option_map seen) now.types.items ++ map (λ (m : Origin). content_type t m.content) (over_instances items_here i rest) ≡ map (λ (m : Origin). content_type t m.content) (origins_of t)
   pub forms : map form_plain now.forms.items ++ forms_from t (length now.types.items) i rest ≡ forms_of t
   pub none : now.rest.items ≡ []
+  pub assigned : now.assigned.items ++ over_instances (assigned_here t) i rest ≡ over_instances (assigned_here t) 0 t
 
-pub passes_start : (t : List Instance) (now : Building) → now.types.items ≡ [] → now.forms.items ≡ [] → now.rest.items ≡ [] → AreKept t now.kept.items → Passes t 0 t now
-passes_start t now types forms rest kept = record {
+pub passes_start : (t : List Instance) (now : Building) → now.types.items ≡ [] → now.forms.items ≡ [] → now.rest.items ≡ [] → now.assigned.items ≡ [] → AreKept t now.kept.items → Passes t 0 t now
+passes_start t now types forms rest assigned kept = record {
   checks = refl;
   ready = record { kept = kept; items = subst (λ k. Stand (origins_of t) k (origins_of t)) (sym (ap length types)) (stand_whole (origins_of t)) };
   types = ap (λ xs. map (option_map seen) xs ++ map (λ (m : Origin). content_type t m.content) (origins_of t)) types;
   forms = ap (λ xs. map form_plain xs ++ forms_from t (length now.types.items) 0 t) forms ∙ ap (λ xs. forms_from t (length xs) 0 t) types;
   none = rest;
+  assigned = ap (λ xs. xs ++ over_instances (assigned_here t) 0 t) assigned;
 }
 
 pub passes_ready : (t : List Instance) (i : ℕ) (at : Instance) (rest : List Instance) (now : Building) → Passes t i (at ∷ rest) now → IsReady t (items_here i at) now
@@ -53,4 +55,7 @@ passes_step t i at rest now next h c a =
           ∙ ap (λ fs. fs ++ forms_from t (length now.types.items + length here) (i + 1) rest) a.forms
           ∙ append_assoc (map form_plain now.forms.items) (forms_here t (length now.types.items) i at) (forms_from t (length now.types.items + length here) (i + 1) rest) ∙ h.forms;
       none = a.rest;
+      assigned =
+          ap (λ xs. xs ++ over_instances (assigned_here t) (i + 1) rest) a.assigned
+          ∙ append_assoc now.assigned.items (assigned_here t i at) (over_instances (assigned_here t) (i + 1) rest) ∙ h.assigned;
     }

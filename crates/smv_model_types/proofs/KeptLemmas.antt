@@ -1,6 +1,6 @@
 -- Items that stand one after another, and the bodies that are kept of them.
 use Rattle.std.proofs.Common.{◌≡◌, ℕ, zero, suc, ◌+◌, ◌<◌, ◌^◌, ◌==◌, Bool, true, false, ◌&&◌, if◌then◌else◌, List, [], ◌∷◌, ◌++◌, length, map, position, Option, None, Some, option_map, Ok, bytes_eq, refl, sym, ap, ◌∙◌, subst, arith}
-use Rattle.std.specs.Prelude.{slice_index_or, Result, Err, OnOk}
+use Rattle.std.specs.Prelude.{slice_index_or, Result, Err, IfOk, OnOk}
 use Rattle.std.specs.List.{slice_get, AllByRecursion}
 use Rattle.std.proofs.lemmas.Bool.{eqb-true}
 use Rattle.std.proofs.lemmas.Slice.Eq.{bytes_eq-Decides}
@@ -23,6 +23,10 @@ use Rattle.smv_model_types.proofs.FlatSame.{ends_same}
 pub ok_map : {X Y E : Type 0} (r : Result (Unit {0}) E) → (X → Y) → OnOk r X → OnOk r Y
 ok_map (Ok u) f x = f x
 ok_map (Err e) f x = tt
+
+pub if_map : {X E : Type 0} {P Q : X → Type 0} (r : Result X E) → ((x : X) → P x → Q x) → IfOk r P → IfOk r Q
+if_map (Ok x) f p = f x p
+if_map (Err e) f p = tt
 
 -- ---- items that stand in the list
 
@@ -82,7 +86,7 @@ pub fewer_kept : (t : List Instance) (old new : List (Option Typed)) → ((n : �
 fewer_kept t old new less h k x e = h k x (less k x e)
 
 -- the first that passes a test stands at its position
-at_position : (f : Origin → Bool) (ms : List Origin) (k : ℕ) → position f ms ≡ Some k → (m : Origin) → slice_get ms k ≡ Some m → f m ≡ true
+pub at_position : (f : Origin → Bool) (ms : List Origin) (k : ℕ) → position f ms ≡ Some k → (m : Origin) → slice_get ms k ≡ Some m → f m ≡ true
 at_position f [] k h m g = cc
 at_position f (o ∷ ms) k h m g = by (λ n. at_position f ms n) (f o) refl (position f ms) refl k (sym (position_cons f o ms) ∙ h) g
   where

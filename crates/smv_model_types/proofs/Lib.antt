@@ -3,13 +3,14 @@ pub mod DomainLemmas
 pub mod Filling
 pub mod InOrder
 pub mod BodyLemmas
-pub mod Targets
-pub mod Entered
+pub mod Pieces
 pub mod BuildingLaws
 pub mod FlatSame
 pub mod KeptLemmas
+pub mod Stored
 pub mod Ready
 pub mod Walks
 pub mod Actuals
 pub mod Parameters
 pub mod Instances
+pub mod Numbered

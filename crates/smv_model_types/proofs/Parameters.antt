@@ -16,9 +16,9 @@ use Rattle.smv_meaning.specs.Phases.{actual_typing, actuals_typing}
 use Rattle.smv_intervals.specs.View.{seen}
 use Rattle.smv_flat.specs.FlatFormulas.{form_plain}
 use Rattle.smv_items.specs.FlatItems.{Origin, Content, with_content, actual_content, actual_items, content_type}
-use Rattle.smv_flat.specs.FlatForms.{Form, content_form, body_forms}
+use Rattle.smv_flat.specs.FlatForms.{content_form, body_forms}
 use Rattle.smv_model_types.specs.declared.building.Building.{Building}
-use Rattle.smv_model_types.specs.Building.{Adds, IsReady, own_items}
+use Rattle.smv_model_types.specs.Building.{Piece, Adds, IsReady, own_items}
 use Rattle.smv_model_types.proofs.Ready.{ready_mapped}
 use Rattle.smv_model_types.proofs.Walks.{actuals_each}
 
@@ -34,11 +34,12 @@ same_forms : (t : List Instance) (k : ℕ) (ms : List Origin) → body_forms t k
 same_forms t k [] = refl
 same_forms t k (m ∷ ms) = ap (λ fs. content_form t k m.instance m.content ++ fs) (same_forms t (k + 1) ms)
 
-pub named_adds : (t : List Instance) (ms : List Origin) (fs : List Form) (old new : Building) → Adds t (map unnamed ms) fs old new → Adds t ms fs old new
-named_adds t ms fs old new h = record {
+pub named_adds : (t : List Instance) (ms : List Origin) (ps : List Piece) (old new : Building) → Adds t (map unnamed ms) ps old new → Adds t ms ps old new
+named_adds t ms ps old new h = record {
   types = h.types ∙ ap (λ ts. map (option_map seen) old.types.items ++ ts) (same_types t ms);
   forms = h.forms ∙ ap (λ gs. map form_plain old.forms.items ++ gs) (same_forms t (length old.types.items) ms);
   rest = h.rest;
+  assigned = h.assigned;
   kept = h.kept;
 }
 
@@ -88,8 +89,8 @@ own_all i j qs es l = let m : length (map plain es) ≡ length es = length-map e
 pub own_ready : (t : List Instance) (ms xs : List Origin) (now : Building) → map unnamed ms ≡ xs → IsReady t ms now → IsReady t xs now
 own_ready t ms xs now e r = ready_mapped t unnamed ms xs now (λ m. refl) e r
 
-pub own_adds : (t : List Instance) (ms xs : List Origin) (fs : List Form) (old new : Building) → map unnamed ms ≡ xs → Adds t xs fs old new → Adds t ms fs old new
-own_adds t ms xs fs old new e h = named_adds t ms fs old new (subst (λ ys. Adds t ys fs old new) (sym e) h)
+pub own_adds : (t : List Instance) (ms xs : List Origin) (ps : List Piece) (old new : Building) → map unnamed ms ≡ xs → Adds t xs ps old new → Adds t ms ps old new
+own_adds t ms xs ps old new e h = named_adds t ms ps old new (subst (λ ys. Adds t ys ps old new) (sym e) h)
 
 pub settles_behind : (r : Result (Unit {0}) End) (xs ys zs : List Check) → zs ≡ xs ++ ys → first_failing xs ≡ None → Settles r ys → Settles r zs
 settles_behind (Ok u) xs ys zs e h s = ap first_failing e ∙ goes xs ys h ∙ s

@@ -3,10 +3,9 @@ use Rattle.std.proofs.Common.{◌≡◌, ℕ, List, [], ◌∷◌, ◌++◌, len
 use Rattle.smv_text.specs.Tree.{Tree}
 use Rattle.smv_meaning.specs.Instances.{Instance}
 use Rattle.smv_items.specs.FlatItems.{Origin, definition, origins_of}
-use Rattle.smv_flat.specs.FlatForms.{Form}
 use Rattle.smv_model_types.specs.declared.building.Building.{Building}
 use Rattle.smv_model_types.specs.Kept.{Stand, IsBodyAt, body_or_none}
-use Rattle.smv_model_types.specs.Building.{Adds, IsReady}
+use Rattle.smv_model_types.specs.Building.{Piece, Adds, IsReady}
 use Rattle.smv_model_types.proofs.BuildingLaws.{types_long}
 use Rattle.smv_model_types.proofs.KeptLemmas.{stand_front, stand_back, stand_mapped}
 
@@ -14,10 +13,10 @@ pub ready_first : (t : List Instance) (ms ns : List Origin) (now : Building) →
 ready_first t ms ns now r = record { kept = r.kept; items = stand_front (origins_of t) (length now.types.items) ms ns r.items }
 
 -- behind those that are added
-pub ready_behind : (t : List Instance) (ms ns : List Origin) (fs : List Form) (now next : Building) → Adds t ms fs now next → IsReady t (ms ++ ns) now → IsReady t ns next
-ready_behind t ms ns fs now next a r = record {
+pub ready_behind : (t : List Instance) (ms ns : List Origin) (ps : List Piece) (now next : Building) → Adds t ms ps now next → IsReady t (ms ++ ns) now → IsReady t ns next
+ready_behind t ms ns ps now next a r = record {
   kept = a.kept r.kept;
-  items = subst (λ k. Stand (origins_of t) k ns) (sym (types_long t ms fs now next a)) (stand_back (origins_of t) (length now.types.items) ms ns r.items);
+  items = subst (λ k. Stand (origins_of t) k ns) (sym (types_long t ms ps now next a)) (stand_back (origins_of t) (length now.types.items) ms ns r.items);
 }
 
 pub ready_mapped : (t : List Instance) (f : Origin → Origin) (ms ns : List Origin) (now : Building) → ((m : Origin) → (f m).content ≡ m.content) → map f ms ≡ ns → IsReady t ms now → IsReady t ns now

@@ -1,10 +1,10 @@
 -- Bodies that are typed before their place in the text, by the numbers of their items.
-use Rattle.std.specs.Prelude.{◌≡◌, ℕ, ◌+◌, true, false, List, [], ◌∷◌, Option, None, Some, option_map, Ok, slice_index_or}
+use Rattle.std.specs.Prelude.{◌≡◌, ℕ, ◌+◌, Bool, true, false, List, [], ◌∷◌, Option, None, Some, option_map, Ok, slice_index_or}
 use Rattle.std.specs.List.{slice_get}
 use Rattle.smv_text.specs.Tree.{Tree}
 use Rattle.smv_text.specs.declared.tree.Path.{Path}
 use Rattle.smv_meaning.specs.Instances.{Instance}
-use Rattle.smv_meaning.specs.Names.{body_of, local}
+use Rattle.smv_meaning.specs.Names.{Local, body_of, local}
 use Rattle.smv_meaning.specs.Checks.{Named, typing}
 use Rattle.smv_meaning.specs.Expressions.{paths_of}
 use Rattle.smv_meaning.specs.Orders.{SameOn}
@@ -56,6 +56,11 @@ AreKept t kept = (k : ℕ) (x : Typed) → slice_index_or kept k None ≡ Some x
 abbrev pub IsTried : (Path → Named) → (Path → Leaf) → Tree → Option Typed → Type 0
 IsTried names leaf e (Some x) = EndsTyped names leaf in_body false e (Ok x)
 IsTried names leaf e None = None ≡ (typing names in_body e).type
+
+-- the name is a definition, or an actual that is no path
+abbrev pub has_own_body : Local → Bool
+has_own_body (body_of j e) = true
+has_own_body l = false
 
 abbrev pub tried_type : Option Typed → Option Ty
 tried_type None = None

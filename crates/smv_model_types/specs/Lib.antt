@@ -1,4 +1,5 @@
 pub mod Entries
 pub mod Outcome
 pub mod Kept
+pub mod Reading
 pub mod Building

@@ -1,45 +1,45 @@
 // The types of definitions and actuals, each after those to which it refers.
-ghost use Rattle.std.specs.Prelude.{◌≡◌, ◌<◌, true, [], length, map, option_map, slice_index_or, IfOk, OnOk};
+ghost use Rattle.std.specs.Prelude.{◌≡◌, ◌<◌, true, [], Some, length, map, option_map, slice_index_or, IfOk, OnOk};
 ghost use Rattle.std.specs.List.{AllByRecursion, list_any};
 ghost use Rattle.smv_text.specs.View.{plain};
-ghost use Rattle.smv_meaning.specs.Names.{body_at, local, look, steps_of};
+ghost use Rattle.smv_meaning.specs.Names.{body_at, local};
 ghost use Rattle.smv_meaning.specs.Checks.{typing};
 ghost use Rattle.smv_meaning.specs.Naming.{in_body, named_found};
 ghost use Rattle.smv_meaning.specs.Bodies.{placed_bodies, IsBodyOrder};
-ghost use Rattle.smv_instances.specs.Leads.{is_alias};
 ghost use Rattle.smv_instances.specs.View.{instance_plain};
 ghost use Rattle.smv_references.specs.View.{body_plain, path_seen, key_of};
 ghost use Rattle.smv_intervals.specs.View.{seen};
 ghost use Rattle.smv_types.specs.View.{named_seen};
 ghost use Rattle.smv_items.specs.FlatItems.{leaf_in};
 ghost use Rattle.smv_items.specs.laws.Declarations.{DiffersInside};
-ghost use Rattle.smv_model_types.specs.Kept.{AreKept, HasReferred, IsBodyOf, IsTried, tried_type};
-ghost use Rattle.smv_model_types.specs.Entries.{entries_seen, entries_names, alias_put, Becomes, IsPut, HasEach};
+ghost use Rattle.smv_model_types.specs.Kept.{AreKept, HasReferred, IsBodyOf, IsTried, has_own_body, tried_type};
+ghost use Rattle.smv_model_types.specs.Entries.{entries_seen, entries_names, Becomes, IsPut, HasEach};
+ghost use Rattle.smv_model_types.specs.Reading.{entries_of, instances_of, names_of};
 
 use crate::context::{EnteredNames, Model};
 use crate::kept::{Kept, put_at};
-use crate::names::{Entries, path_named};
-use crate::variables::variables_of;
-use name_maps::{add_row_in, row_value_in};
+use crate::names::{Entries, target_reaches};
+use name_maps::row_value_in;
 use smv_flat::{Typed, typed};
-use smv_instances::{Known, Table, Target};
-use smv_intervals::Ty;
+use smv_instances::Known;
 use smv_laws::{
     names_settle, order_is_complete, references_come_before, refused_have_no_type,
     types_hang_on_paths, types_settle,
 };
 use smv_references::{Body, paths_in};
-use smv_text::{Domain, Expr, Path};
+use smv_text::{Expr, Path};
 use smv_types::{CheckEnd, Named, Permissions, Position};
 use std::alloc::Global;
 use text_core::{List, NoMemory};
 
 // Whether one of the paths reaches an input.
-fn one_reaches<'a>(table: &Table<'a>, entries: &Entries<'a>, j: usize, paths: &[&Path]) -> bool
-    ensures { result ≡ list_any (λ q. (entries_names (map instance_plain table.now) (entries_seen entries.now) j q).reaches_input) (map path_seen paths.now) }
+fn one_reaches<'c, 's, 'a, 'n>(names: &EnteredNames<'c, 's, 'a, 'n>, paths: &[&Path]) -> bool
+    ensures { result ≡ list_any (λ q. (names_of names.now q).reaches_input) (map path_seen paths.now) }
 {
+    let model = names.model;
     for path in paths {
-        if path_named(table, entries, j, path).reaches_input {
+        let target = model.table.target(names.instance, path);
+        if target_reaches(model, names.entries, target) {
             return true;
         }
     }
@@ -48,132 +48,97 @@ fn one_reaches<'a>(table: &Table<'a>, entries: &Entries<'a>, j: usize, paths: &[
 
 // The type and the flat form of a body, or None where one of its checks fails.
 #[tactic(auto, using(crate::proofs::BuildingLaws::known_always))]
-fn body_typed<'s, 'a, 'n>(
+fn body_typed<'c, 's, 'a, 'n>(
     alloc: Global,
-    model: &Model<'s, 'a, 'n>,
-    entries: &Entries<'a>,
-    j: usize,
+    names: &EnteredNames<'c, 's, 'a, 'n>,
     e: &Expr,
 ) -> Result<Option<Typed>, NoMemory>
-    ensures { IfOk result (IsTried (entries_names (map instance_plain model.now.table.now) (entries_seen entries.now) j) (leaf_in (map instance_plain model.now.table.now) j) (plain e.now)) }
+    ensures { IfOk result (IsTried (names_of names.now) (leaf_in (instances_of names.now) names.now.instance) (plain e.now)) }
 {
     refused_have_no_type();
-    let names = EnteredNames {
-        model,
-        entries,
-        instance: j,
-    };
-    match typed(alloc, &names, e, Permissions::of(Position::Define), false) {
+    match typed(alloc, names, e, Permissions::of(Position::Define), false) {
         Ok(x) => Ok(Some(x)),
         Err(CheckEnd::Bad(_)) => Ok(None),
         Err(CheckEnd::NoMemory) => Err(NoMemory),
     }
 }
 
-fn tried_type(x: &Option<Typed>) -> Option<Ty>
-    ensures { result ≡ tried_type x.now }
-{
-    match x {
-        Some(x) => x.ty,
-        None => None,
-    }
-}
-
-// The properties of a body of this type.
-fn body_named<'a>(
+// The properties of a body, given what typing it came to.
+fn body_named<'c, 's, 'a, 'n>(
     alloc: Global,
-    table: &Table<'a>,
-    entries: &Entries<'a>,
-    j: usize,
+    names: &EnteredNames<'c, 's, 'a, 'n>,
     e: &Expr,
-    ty: Option<Ty>,
+    found: &Option<Typed>,
 ) -> Result<Named, NoMemory>
-    requires of_type { option_map seen ty ≡ (typing (entries_names (map instance_plain table.now) (entries_seen entries.now) j) in_body (plain e.now)).type }
-    ensures { IfOk result (λ n. named_seen n ≡ named_found true (entries_names (map instance_plain table.now) (entries_seen entries.now)) (body_at 0 [] j (plain e.now))) }
+    requires of_type { option_map seen (tried_type found.now) ≡ (typing (names_of names.now) in_body (plain e.now)).type }
+    ensures { IfOk result (λ n. named_seen n ≡ named_found true (entries_names (instances_of names.now) (entries_of names.now)) (body_at 0 [] names.now.instance (plain e.now))) }
 {
     let paths = paths_in(alloc, e)?;
+    let ty = match found {
+        Some(x) => x.ty,
+        None => None,
+    };
     Ok(Named {
         ty,
         is_instance: false,
-        reaches_input: one_reaches(table, entries, j, paths.as_slice()),
+        reaches_input: one_reaches(names, paths.as_slice()),
     })
 }
 
-// Keeps the body of this instance and name, if it was typed, under the number of its item.
-fn keep<'s, 'a, 'n>(
+// Stores the properties of the body of this instance and name, and the body itself if it was typed, under the number of
+// its item.
+fn store<'s, 'a, 'n>(
     model: &Model<'s, 'a, 'n>,
+    entries: &mut Entries,
     kept: &mut Kept,
     i: usize,
     x: &[u8],
+    named: Named,
     found: Option<Typed>,
 ) -> Result<(), NoMemory>
     requires differ { AllByRecursion DiffersInside (map instance_plain model.now.table.now) }
+    requires is_body { has_own_body (local (map instance_plain model.now.table.now) i x.now) ≡ true }
     requires kept { AreKept (map instance_plain model.now.table.now) kept.old.items }
     requires found { IsBodyOf (map instance_plain model.now.table.now) i x.now found }
-    ensures { OnOk result (AreKept (map instance_plain model.now.table.now) kept.new.items) }
+    ensures put { OnOk result (Becomes (entries_seen model.now.numbers.now.bodies entries.old.items) (i, x.now) (Some (named_seen named)) (entries_seen model.now.numbers.now.bodies entries.new.items)) }
+    ensures kept { OnOk result (AreKept (map instance_plain model.now.table.now) kept.new.items) }
 {
     match row_value_in(&model.numbers.bodies, i, x) {
-        Some(k) => put_at(kept, k, found),
+        Some(k) => {
+            put_at(entries, k, Some(named))?;
+            put_at(kept, k, found)?;
+            Ok(())
+        }
         None => Ok(()),
     }
 }
 
-// Stores the properties of an alias that leads to an enumeration. Those of any other alias are found from its target in
-// a step or two.
-fn put_alias<'a>(
-    table: &Table<'a>,
-    entries: &mut Entries<'a>,
-    i: usize,
-    x: &'a [u8],
-    j: usize,
-    path: &Path,
-) -> Result<(), NoMemory>
-    requires alias { is_alias (local (map instance_plain table.now) i x.now) ≡ true }
-    ensures { OnOk result (Becomes (entries_seen entries.old) (i, x.now) (alias_put (look (map instance_plain table.now) (steps_of (map instance_plain table.now)) i x.now) (entries_names (map instance_plain table.now) (entries_seen entries.old) j path.now)) (entries_seen entries.new)) }
-{
-    match table.target_of_alias(i, x) {
-        Target::Variable(_, _, _, domain) => match domain {
-            Domain::Members(_) => {
-                let named = path_named(table, entries, j, path);
-                add_row_in(entries, i, x, named)
-            }
-            Domain::Boolean => Ok(()),
-            Domain::Between(_, _) => Ok(()),
-            Domain::Bits(_) => Ok(()),
-            Domain::Instance(_, _) => Ok(()),
-        },
-        Target::Body(_, _, _, _) => Ok(()),
-        Target::Instance(_) => Ok(()),
-        Target::Symbol(_) => Ok(()),
-        Target::Cyclic => Ok(()),
-        Target::Missing => Ok(()),
-    }
-}
-
-// Adds the properties of a definition or an actual to the entries, and keeps its flat form.
+// Types a definition or an actual that is no path, and stores it.
 fn put_body<'s, 'a, 'n>(
     alloc: Global,
     model: &Model<'s, 'a, 'n>,
-    entries: &mut Entries<'a>,
+    entries: &mut Entries,
     kept: &mut Kept,
     body: &Body<'a>,
 ) -> Result<(), NoMemory>
     requires differ { AllByRecursion DiffersInside (map instance_plain model.now.table.now) }
-    requires referred { HasReferred (map instance_plain model.now.table.now) (entries_seen entries.old) (key_of body.now) }
+    requires referred { HasReferred (map instance_plain model.now.table.now) (entries_seen model.now.numbers.now.bodies entries.old.items) (key_of body.now) }
     requires kept { AreKept (map instance_plain model.now.table.now) kept.old.items }
-    ensures put { OnOk result (IsPut (map instance_plain model.now.table.now) (key_of body.now) (entries_seen entries.old) (entries_seen entries.new)) }
+    ensures put { OnOk result (IsPut (map instance_plain model.now.table.now) (key_of body.now) (entries_seen model.now.numbers.now.bodies entries.old.items) (entries_seen model.now.numbers.now.bodies entries.new.items)) }
     ensures kept { OnOk result (AreKept (map instance_plain model.now.table.now) kept.new.items) }
 {
-    let table = model.table;
-    match table.local(body.instance, body.name) {
-        Known::Alias(j, path) => put_alias(table, entries, body.instance, body.name, j, path),
+    match model.table.local(body.instance, body.name) {
         Known::Body(j, e) => {
-            let found = body_typed(alloc, model, entries, j, e)?;
-            let ty = tried_type(&found);
-            keep(model, kept, body.instance, body.name, found)?;
-            let named = body_named(alloc, table, entries, j, e, ty)?;
-            add_row_in(entries, body.instance, body.name, named)
+            let names = EnteredNames {
+                model,
+                entries,
+                instance: j,
+            };
+            let found = body_typed(alloc, &names, e)?;
+            let named = body_named(alloc, &names, e, &found)?;
+            store(model, entries, kept, body.instance, body.name, named, found)
         }
+        Known::Alias(_, _) => Ok(()),
         Known::Variable(_, _) => Ok(()),
         Known::Instance => Ok(()),
         Known::Nothing => Ok(()),
@@ -187,12 +152,11 @@ fn numbered_body<'f, 'a>(bodies: &'f [Body<'a>], n: usize) -> &'f Body<'a>
     &bodies[n]
 }
 
-/// The properties of the enumerations, definitions and actuals of a model, and the bodies that passed their checks.
-///
-/// An alias has an entry only if it leads to an enumeration.
+/// The properties of the definitions and actuals of a model, and the bodies that passed their checks, by the numbers of
+/// their items.
 #[derive(Drop)]
-pub(crate) struct TypedBodies<'a> {
-    pub(crate) entries: Entries<'a>,
+pub(crate) struct TypedBodies {
+    pub(crate) entries: Entries,
     pub(crate) kept: Kept,
 }
 
@@ -202,11 +166,11 @@ pub(crate) fn bodies_typed<'s, 'a, 'n>(
     model: &Model<'s, 'a, 'n>,
     bodies: &[Body<'a>],
     order: &List<usize>,
-) -> Result<TypedBodies<'a>, NoMemory>
+) -> Result<TypedBodies, NoMemory>
     requires bodies { map body_plain bodies.now ≡ placed_bodies (map instance_plain model.now.table.now) }
     requires order { IsBodyOrder (map instance_plain model.now.table.now) order.now }
     requires differ { AllByRecursion DiffersInside (map instance_plain model.now.table.now) }
-    ensures entries { IfOk result (λ b. HasEach (map instance_plain model.now.table.now) (entries_seen b.entries)) }
+    ensures entries { IfOk result (λ b. HasEach (map instance_plain model.now.table.now) (entries_seen model.now.numbers.now.bodies b.entries.items)) }
     ensures kept { IfOk result (λ b. AreKept (map instance_plain model.now.table.now) b.kept.items) }
 {
     names_settle();
@@ -214,7 +178,7 @@ pub(crate) fn bodies_typed<'s, 'a, 'n>(
     types_hang_on_paths();
     references_come_before();
     order_is_complete();
-    let mut entries = variables_of(alloc, model.table, model.origins)?;
+    let mut entries = Vec::new(alloc);
     let mut kept = Vec::new(alloc);
     for number in order.as_slice() {
         let body = numbered_body(bodies, *number);

@@ -1,5 +1,5 @@
 // The flat forms of a model's expressions, each checked as it is made.
-ghost use Rattle.std.specs.Prelude.{◌≡◌, ◌+◌, ◌<◌, ◌++◌, ◌^◌, ◌∷◌, [], ℕ, List, length, map, flat_map, option_map, true, false, OnOk};
+ghost use Rattle.std.specs.Prelude.{◌≡◌, ◌+◌, ◌<◌, ◌++◌, ◌∷◌, [], ℕ, List, length, map, flat_map, option_map, if◌then◌else◌, Some, None, true, false, OnOk};
 ghost use Rattle.smv_text.specs.declared.tree.VarKind.{VarKind};
 ghost use Rattle.smv_text.specs.Tree.{trees_of};
 ghost use Rattle.smv_text.specs.View.{plain, plain_domain, plain_item, plain_definition, plain_assignment, plain_element};
@@ -7,29 +7,30 @@ ghost use Rattle.smv_meaning.specs.Types.{is_truth_type, type_same};
 ghost use Rattle.smv_meaning.specs.Checks.{typing, on_type, on_types};
 ghost use Rattle.smv_meaning.specs.Instances.{Instance as Specified};
 ghost use Rattle.smv_meaning.specs.Naming.{in_body};
-ghost use Rattle.smv_meaning.specs.Phases.{domain_declares_instance, in_assignment, actual_typing, actuals_typing, formula_typing, assigned_typing, element_typing, type_checks, names_in};
+ghost use Rattle.smv_meaning.specs.Phases.{domain_declares_instance, in_assignment, actual_typing, actuals_typing, formula_typing, assigned_typing, element_typing, type_checks, names_in, is_assignable};
 ghost use Rattle.smv_meaning.specs.Settled.{types_in};
-ghost use Rattle.smv_instances.specs.View.{instance_plain};
+ghost use Rattle.smv_instances.specs.declared.instances.Instance.{Instance as PartOf};
+ghost use Rattle.smv_instances.specs.View.{instance_plain, found_plain};
 ghost use Rattle.smv_intervals.specs.View.{seen};
 ghost use Rattle.smv_types.specs.View.{position_seen};
-ghost use Rattle.smv_items.specs.FlatItems.{with_content, actual_content, actual_items, variable_item, definition_item, element_items, items_here, leaf_in};
+ghost use Rattle.smv_items.specs.FlatItems.{actual_items, variable_item, definition_item, element_items, items_here, leaf_in};
 ghost use Rattle.smv_items.specs.FlatOrigins.{leaf_plain};
-ghost use Rattle.smv_flat.specs.FlatForms.{assignment_form, element_forms, flat_in, number_or_first};
+ghost use Rattle.smv_flat.specs.FlatForms.{flat_in, number_or_first};
 ghost use Rattle.smv_flat.specs.FlatFormulas.{form_plain};
 ghost use Rattle.smv_flat.specs.FlatView.{EndsTyped, plain_flat};
 ghost use Rattle.smv_names.specs.Outcome.{Settles};
 ghost use Rattle.smv_model_types.specs.Kept.{AreKept, IsBodyAt};
-ghost use Rattle.smv_model_types.specs.Building.{Adds, BodyAdds, InstanceAdds, IsReady, own_items};
+ghost use Rattle.smv_model_types.specs.Building.{Adds, BodyAdds, InstanceAdds, IsReady, instances_in, own_items, section_piece, assignment_piece, element_pieces};
 ghost use Rattle.smv_model_types.specs.Outcome.{is_path, item_typing, definition_typing};
 
-use crate::context::{Context, InstanceNames};
+use crate::context::{Context, InstanceNames, translated};
 use crate::domains::declared;
 use crate::kept::{Kept, take_at};
-use smv_flat::{FlatExpr, FlatFormula, Naming, Role, Typed, typed};
-use smv_instances::Instance;
+use smv_flat::{FlatExpr, FlatFormula, Role, Typed, typed};
+use smv_instances::{Instance, Target};
 use smv_intervals::Ty;
 use smv_items::Leaf;
-use smv_names::NamesEnd;
+use smv_names::{NamesEnd, NumberedAssignment, is_assignable};
 use smv_references::place;
 use smv_text::{
     Assignment, Assignments, Definitions, Domain, Element, Elements, Expr, Item, Items, Parameters,
@@ -40,11 +41,12 @@ use std::alloc::Global;
 use text_core::kinds::smv;
 use text_core::{NoMemory, Refusal};
 
-/// The flat forms of a model's formulas, and the types of its items.
+/// The flat forms of a model's formulas, the types of its items, and its assignments in the order of the text.
 #[derive(Drop)]
 pub struct Built {
     pub forms: Vec<FlatFormula>,
     pub types: Vec<Option<Ty>>,
+    pub assigned: Vec<NumberedAssignment>,
 }
 
 /// What the pass over a model's instances has built, and the bodies that it still has to place.
@@ -54,6 +56,8 @@ pub(crate) struct Building {
     pub(crate) forms: Vec<FlatFormula>,
     /// The assignments and sections of the instance at hand.
     pub(crate) rest: Vec<FlatFormula>,
+    /// The assignments of the instances so far.
+    pub(crate) assigned: Vec<NumberedAssignment>,
     /// The types of the items so far.
     pub(crate) types: Vec<Option<Ty>>,
     /// The bodies of later items, so far as they passed their checks.
@@ -69,7 +73,7 @@ fn expression<'s, 'a, 'n>(
     e: &Expr,
     position: Position,
 ) -> Result<Typed, NamesEnd>
-    ensures { EndsTyped (types_in true (map instance_plain context.now.model.now.table.now) i) (leaf_in (map instance_plain context.now.model.now.table.now) i) (position_seen position) false (plain e.now) result }
+    ensures { EndsTyped (types_in true (instances_in context.now) i) (leaf_in (instances_in context.now) i) (position_seen position) false (plain e.now) result }
 {
     let names = InstanceNames {
         context,
@@ -102,10 +106,10 @@ fn body_typed<'s, 'a, 'n>(
     reader: usize,
     e: &Expr,
 ) -> Result<Typed, NamesEnd>
-    requires kept { AreKept (map instance_plain context.now.model.now.table.now) kept.old.items }
-    requires body { IsBodyAt (map instance_plain context.now.model.now.table.now) item reader (plain e.now) }
-    ensures typed { EndsTyped (types_in true (map instance_plain context.now.model.now.table.now) reader) (leaf_in (map instance_plain context.now.model.now.table.now) reader) in_body false (plain e.now) result }
-    ensures kept { AreKept (map instance_plain context.now.model.now.table.now) kept.new.items }
+    requires kept { AreKept (instances_in context.now) kept.old.items }
+    requires body { IsBodyAt (instances_in context.now) item reader (plain e.now) }
+    ensures typed { EndsTyped (types_in true (instances_in context.now) reader) (leaf_in (instances_in context.now) reader) in_body false (plain e.now) result }
+    ensures kept { AreKept (instances_in context.now) kept.new.items }
 {
     match take_at(kept, item) {
         Some(x) => Ok(x),
@@ -123,10 +127,10 @@ fn add_body<'s, 'a, 'n>(
     reader: usize,
     e: &Expr,
 ) -> Result<(), NamesEnd>
-    requires kept { AreKept (map instance_plain context.now.model.now.table.now) built.old.kept.items }
-    requires body { IsBodyAt (map instance_plain context.now.model.now.table.now) (length built.old.types.items) reader (plain e.now) }
-    ensures checks { Settles result (typing (types_in true (map instance_plain context.now.model.now.table.now) reader) in_body (plain e.now)).checks }
-    ensures adds { OnOk result (BodyAdds (map instance_plain context.now.model.now.table.now) i reader (plain e.now) built.old built.new) }
+    requires kept { AreKept (instances_in context.now) built.old.kept.items }
+    requires body { IsBodyAt (instances_in context.now) (length built.old.types.items) reader (plain e.now) }
+    ensures checks { Settles result (typing (types_in true (instances_in context.now) reader) in_body (plain e.now)).checks }
+    ensures adds { OnOk result (BodyAdds (instances_in context.now) i reader (plain e.now) built.old built.new) }
 {
     let item = built.types.len();
     let x = body_typed(alloc, context, &mut built.kept, item, reader, e)?;
@@ -149,7 +153,7 @@ fn check_body<'s, 'a, 'n>(
     reader: usize,
     e: &Expr,
 ) -> Result<(), NamesEnd>
-    ensures { Settles result (typing (types_in true (map instance_plain context.now.model.now.table.now) reader) in_body (plain e.now)).checks }
+    ensures { Settles result (typing (types_in true (instances_in context.now) reader) in_body (plain e.now)).checks }
 {
     expression(alloc, context, reader, e, Position::Define)?;
     Ok(())
@@ -163,7 +167,7 @@ fn check_actual<'s, 'a, 'n>(
     parent: usize,
     e: &Expr,
 ) -> Result<(), NamesEnd>
-    ensures { Settles result (actual_typing (types_in true (map instance_plain context.now.model.now.table.now) parent) (plain e.now)) }
+    ensures { Settles result (actual_typing (types_in true (instances_in context.now) parent) (plain e.now)) }
 {
     if is_path(e) {
         Ok(())
@@ -182,9 +186,9 @@ fn add_actual<'s, 'a, 'n>(
     parent: usize,
     e: &Expr,
 ) -> Result<(), NamesEnd>
-    requires ready { IsReady (map instance_plain context.now.model.now.table.now) (own_items i parent (plain e.now)) built.old }
-    ensures checks { Settles result (actual_typing (types_in true (map instance_plain context.now.model.now.table.now) parent) (plain e.now)) }
-    ensures adds { OnOk result (Adds (map instance_plain context.now.model.now.table.now) (own_items i parent (plain e.now)) [] built.old built.new) }
+    requires ready { IsReady (instances_in context.now) (own_items i parent (plain e.now)) built.old }
+    ensures checks { Settles result (actual_typing (types_in true (instances_in context.now) parent) (plain e.now)) }
+    ensures adds { OnOk result (Adds (instances_in context.now) (own_items i parent (plain e.now)) [] built.old built.new) }
 {
     if is_path(e) {
         Ok(())
@@ -236,9 +240,9 @@ fn add_definitions<'s, 'a, 'n>(
     i: u32,
     definitions: &Definitions,
 ) -> Result<(), NamesEnd>
-    requires ready { IsReady (map instance_plain context.now.model.now.table.now) (map (definition_item i) (map plain_definition definitions.now)) built.old }
-    ensures checks { Settles result (flat_map (definition_typing (types_in true (map instance_plain context.now.model.now.table.now) i)) (map plain_definition definitions.now)) }
-    ensures adds { OnOk result (Adds (map instance_plain context.now.model.now.table.now) (map (definition_item i) (map plain_definition definitions.now)) [] built.old built.new) }
+    requires ready { IsReady (instances_in context.now) (map (definition_item i) (map plain_definition definitions.now)) built.old }
+    ensures checks { Settles result (flat_map (definition_typing (types_in true (instances_in context.now) i)) (map plain_definition definitions.now)) }
+    ensures adds { OnOk result (Adds (instances_in context.now) (map (definition_item i) (map plain_definition definitions.now)) [] built.old built.new) }
 {
     for definition in definitions {
         add_body(alloc, context, built, i, i as usize, &definition.body)?;
@@ -265,8 +269,8 @@ fn add_formula<'s, 'a, 'n>(
     e: &Expr,
     position: Position,
 ) -> Result<(), NamesEnd>
-    ensures checks { Settles result (formula_typing (types_in true (map instance_plain context.now.model.now.table.now) i) (position_seen position) (plain e.now)) }
-    ensures adds { OnOk result (Adds (map instance_plain context.now.model.now.table.now) [] (record { instance = i; role = role; body = flat_in (map instance_plain context.now.model.now.table.now) i (position_seen position) (plain e.now) } ∷ []) built.old built.new) }
+    ensures checks { Settles result (formula_typing (types_in true (instances_in context.now) i) (position_seen position) (plain e.now)) }
+    ensures adds { OnOk result (Adds (instances_in context.now) [] (section_piece (record { instance = i; role = role; body = flat_in (instances_in context.now) i (position_seen position) (plain e.now) }) ∷ []) built.old built.new) }
 {
     let x = expression(alloc, context, i as usize, e, position)?;
     if !is_truth(x.ty) {
@@ -312,6 +316,17 @@ fn number(leaf: Leaf) -> u32
     }
 }
 
+// The item that is assigned, where the target can be.
+fn assigned_item(when: When, target: &Target, item: u32) -> Option<u32>
+    ensures { (ts : List PartOf) → result ≡ (if is_assignable when (found_plain (map instance_plain ts) target.now) then Some item else None) }
+{
+    if is_assignable(when, target) {
+        Some(item)
+    } else {
+        None
+    }
+}
+
 // Adds an assignment, whose value must fit its target.
 fn add_assignment<'s, 'a, 'n>(
     alloc: Global,
@@ -320,14 +335,12 @@ fn add_assignment<'s, 'a, 'n>(
     i: u32,
     assignment: &Assignment,
 ) -> Result<(), NamesEnd>
-    ensures checks { Settles result (assigned_typing (types_in true (map instance_plain context.now.model.now.table.now) i) (plain_assignment assignment.now)) }
-    ensures adds { OnOk result (Adds (map instance_plain context.now.model.now.table.now) [] (assignment_form (map instance_plain context.now.model.now.table.now) i (plain_assignment assignment.now) ∷ []) built.old built.new) }
+    ensures checks { Settles result (assigned_typing (types_in true (instances_in context.now) i) (plain_assignment assignment.now)) }
+    ensures adds { OnOk result (Adds (instances_in context.now) [] (assignment_piece (instances_in context.now) i (plain_assignment assignment.now) ∷ []) built.old built.new) }
 {
-    let target = InstanceNames {
-        context,
-        instance: i as usize,
-    }
-    .resolved(alloc, &assignment.target)?;
+    let path = &assignment.target;
+    let found = context.model.table.target(i as usize, path);
+    let target = translated(alloc, context.model, context.entries, found)?;
     let position = position_of(assignment.when);
     let value = expression(alloc, context, i as usize, &assignment.body, position)?;
     if !are_same(target.named.ty, value.ty) {
@@ -336,8 +349,14 @@ fn add_assignment<'s, 'a, 'n>(
             place: place(&assignment.body),
         }));
     }
-    let role = Role::Assign(assignment.when, number(target.leaf));
+    let item = number(target.leaf);
+    let role = Role::Assign(assignment.when, item);
     push(&mut built.rest, i, role, value.expr)?;
+    built.assigned.push(NumberedAssignment {
+        when: assignment.when,
+        item: assigned_item(assignment.when, &found, item),
+        place: path.place,
+    })?;
     Ok(())
 }
 
@@ -348,8 +367,8 @@ fn add_assignments<'s, 'a, 'n>(
     i: u32,
     assignments: &Assignments,
 ) -> Result<(), NamesEnd>
-    ensures checks { Settles result (flat_map (assigned_typing (types_in true (map instance_plain context.now.model.now.table.now) i)) (map plain_assignment assignments.now)) }
-    ensures adds { OnOk result (Adds (map instance_plain context.now.model.now.table.now) [] (map (assignment_form (map instance_plain context.now.model.now.table.now) i) (map plain_assignment assignments.now)) built.old built.new) }
+    ensures checks { Settles result (flat_map (assigned_typing (types_in true (instances_in context.now) i)) (map plain_assignment assignments.now)) }
+    ensures adds { OnOk result (Adds (instances_in context.now) [] (map (assignment_piece (instances_in context.now) i) (map plain_assignment assignments.now)) built.old built.new) }
 {
     for assignment in assignments {
         add_assignment(alloc, context, built, i, assignment)?;
@@ -364,9 +383,9 @@ fn add_element<'s, 'a, 'n>(
     i: u32,
     element: &Element,
 ) -> Result<(), NamesEnd>
-    requires ready { IsReady (map instance_plain context.now.model.now.table.now) (element_items i (plain_element element.now)) built.old }
-    ensures checks { Settles result (element_typing (types_in true (map instance_plain context.now.model.now.table.now) i) (plain_element element.now)) }
-    ensures adds { OnOk result (Adds (map instance_plain context.now.model.now.table.now) (element_items i (plain_element element.now)) (element_forms (map instance_plain context.now.model.now.table.now) i (plain_element element.now)) built.old built.new) }
+    requires ready { IsReady (instances_in context.now) (element_items i (plain_element element.now)) built.old }
+    ensures checks { Settles result (element_typing (types_in true (instances_in context.now) i) (plain_element element.now)) }
+    ensures adds { OnOk result (Adds (instances_in context.now) (element_items i (plain_element element.now)) (element_pieces (instances_in context.now) i (plain_element element.now)) built.old built.new) }
 {
     match element {
         Element::Vars(_, items) => add_items(built, items),
@@ -389,9 +408,9 @@ fn add_elements<'s, 'a, 'n>(
     i: u32,
     elements: &Elements,
 ) -> Result<(), NamesEnd>
-    requires ready { IsReady (map instance_plain context.now.model.now.table.now) (flat_map (element_items i) (map plain_element elements.now)) built.old }
-    ensures checks { Settles result (flat_map (element_typing (types_in true (map instance_plain context.now.model.now.table.now) i)) (map plain_element elements.now)) }
-    ensures adds { OnOk result (Adds (map instance_plain context.now.model.now.table.now) (flat_map (element_items i) (map plain_element elements.now)) (flat_map (element_forms (map instance_plain context.now.model.now.table.now) i) (map plain_element elements.now)) built.old built.new) }
+    requires ready { IsReady (instances_in context.now) (flat_map (element_items i) (map plain_element elements.now)) built.old }
+    ensures checks { Settles result (flat_map (element_typing (types_in true (instances_in context.now) i)) (map plain_element elements.now)) }
+    ensures adds { OnOk result (Adds (instances_in context.now) (flat_map (element_items i) (map plain_element elements.now)) (flat_map (element_pieces (instances_in context.now) i) (map plain_element elements.now)) built.old built.new) }
 {
     for element in elements {
         add_element(alloc, context, built, i, element)?;
@@ -408,9 +427,9 @@ fn add_own<'s, 'a, 'n>(
     parent: usize,
     actuals: &[Expr],
 ) -> Result<(), NamesEnd>
-    requires ready { IsReady (map instance_plain context.now.model.now.table.now) (flat_map (own_items i parent) (map plain actuals.now)) built.old }
-    ensures checks { Settles result (flat_map (actual_typing (types_in true (map instance_plain context.now.model.now.table.now) parent)) (map plain actuals.now)) }
-    ensures adds { OnOk result (Adds (map instance_plain context.now.model.now.table.now) (flat_map (own_items i parent) (map plain actuals.now)) [] built.old built.new) }
+    requires ready { IsReady (instances_in context.now) (flat_map (own_items i parent) (map plain actuals.now)) built.old }
+    ensures checks { Settles result (flat_map (actual_typing (types_in true (instances_in context.now) parent)) (map plain actuals.now)) }
+    ensures adds { OnOk result (Adds (instances_in context.now) (flat_map (own_items i parent) (map plain actuals.now)) [] built.old built.new) }
 {
     for actual in actuals {
         add_actual(alloc, context, built, i, parent, actual)?;
@@ -426,7 +445,7 @@ fn check_others<'s, 'a, 'n>(
     parent: usize,
     actuals: &[Expr],
 ) -> Result<(), NamesEnd>
-    ensures { Settles result (flat_map (actual_typing (types_in true (map instance_plain context.now.model.now.table.now) parent)) (map plain actuals.now)) }
+    ensures { Settles result (flat_map (actual_typing (types_in true (instances_in context.now) parent)) (map plain actuals.now)) }
 {
     for actual in actuals {
         check_actual(alloc, context, parent, actual)?;
@@ -444,9 +463,9 @@ fn add_actuals<'s, 'a, 'n>(
     parameters: &Parameters,
     actuals: &[Expr],
 ) -> Result<(), NamesEnd>
-    requires ready { IsReady (map instance_plain context.now.model.now.table.now) (actual_items i parent parameters.now (trees_of (map plain actuals.now))) built.old }
-    ensures checks { Settles result (actuals_typing (types_in true (map instance_plain context.now.model.now.table.now) parent) (trees_of (map plain actuals.now))) }
-    ensures adds { OnOk result (Adds (map instance_plain context.now.model.now.table.now) (actual_items i parent parameters.now (trees_of (map plain actuals.now))) [] built.old built.new) }
+    requires ready { IsReady (instances_in context.now) (actual_items i parent parameters.now (trees_of (map plain actuals.now))) built.old }
+    ensures checks { Settles result (actuals_typing (types_in true (instances_in context.now) parent) (trees_of (map plain actuals.now))) }
+    ensures adds { OnOk result (Adds (instances_in context.now) (actual_items i parent parameters.now (trees_of (map plain actuals.now))) [] built.old built.new) }
 {
     if parameters.len() < actuals.len() {
         let (own, others) = actuals.split_at(parameters.len());
@@ -466,10 +485,10 @@ pub(crate) fn add_instance<'s, 'a, 'n>(
     i: u32,
     at: &Instance<'a>,
 ) -> Result<(), NamesEnd>
-    requires ready { IsReady (map instance_plain context.now.model.now.table.now) (items_here i (instance_plain at.now)) built.old }
+    requires ready { IsReady (instances_in context.now) (items_here i (instance_plain at.now)) built.old }
     requires none { built.old.rest.items ≡ [] }
-    ensures checks { Settles result (type_checks (names_in (map instance_plain context.now.model.now.table.now)) i (instance_plain at.now)) }
-    ensures adds { OnOk result (InstanceAdds (map instance_plain context.now.model.now.table.now) i (instance_plain at.now) built.old built.new) }
+    ensures checks { Settles result (type_checks (names_in (instances_in context.now)) i (instance_plain at.now)) }
+    ensures adds { OnOk result (InstanceAdds (instances_in context.now) i (instance_plain at.now) built.old built.new) }
 {
     let parent = at.parent.unwrap_or(0);
     let module = at.module;

@@ -3,7 +3,7 @@ ghost use Rattle.std.specs.Prelude.{◌≡◌, true, [], map, option_map};
 ghost use Rattle.smv_text.specs.View.{plain_domain};
 ghost use Rattle.smv_meaning.specs.Names.{variable_at};
 ghost use Rattle.smv_meaning.specs.Types.{member_type, are_same, hull_of};
-ghost use Rattle.smv_meaning.specs.Checks.{domain_checks, variable_type};
+ghost use Rattle.smv_meaning.specs.Checks.{variable_type};
 ghost use Rattle.smv_meaning.specs.Meaning.{is_input};
 ghost use Rattle.smv_meaning.specs.Naming.{named_found, unnamed};
 ghost use Rattle.smv_intervals.specs.View.{seen};
@@ -13,8 +13,8 @@ ghost use Rattle.smv_model_types.specs.Outcome.{IsDeclared};
 use smv_intervals::{Ty, hull, type_within_limit};
 use smv_text::{Domain, Member, Members, VarKind};
 use smv_types::Named;
+use text_core::Kind;
 use text_core::kinds::smv;
-use text_core::{Kind, Place, Refusal};
 use word_core::WIDEST;
 
 fn member_type(member: &Member) -> Ty
@@ -103,7 +103,8 @@ pub(crate) fn variable_type(domain: &Domain) -> Option<Ty>
     }
 }
 
-fn is_input(kind: VarKind) -> bool
+/// Returns whether variables of this kind are inputs.
+pub(crate) fn is_input(kind: VarKind) -> bool
     ensures { result ≡ is_input kind }
 {
     match kind {

@@ -22,7 +22,7 @@ pub(crate) fn take_at(kept: &mut Kept, k: usize) -> Option<Typed>
 }
 
 // Makes room for this number.
-fn make_room(kept: &mut Kept, k: usize) -> Result<(), NoMemory>
+fn make_room<T: Drop>(kept: &mut Vec<Option<T>>, k: usize) -> Result<(), NoMemory>
     ensures long { OnOk result (k < length kept.new.items) }
     ensures same { OnOk result ((n : ℕ) → slice_index_or kept.new.items n None ≡ slice_index_or kept.old.items n None) }
 {
@@ -33,7 +33,11 @@ fn make_room(kept: &mut Kept, k: usize) -> Result<(), NoMemory>
 }
 
 /// Keeps this under a number, in place of what was there.
-pub(crate) fn put_at(kept: &mut Kept, k: usize, found: Option<Typed>) -> Result<(), NoMemory>
+pub(crate) fn put_at<T: Drop>(
+    kept: &mut Vec<Option<T>>,
+    k: usize,
+    found: Option<T>,
+) -> Result<(), NoMemory>
     ensures { OnOk result ((n : ℕ) → slice_index_or kept.new.items n None ≡ (if n == k then found else slice_index_or kept.old.items n None)) }
 {
     make_room(kept, k)?;

@@ -1,71 +1,61 @@
-// The properties of paths, as far as the entries know the names on them.
-ghost use Rattle.std.specs.Prelude.{◌≡◌, ◌∷◌, [], true, map, Some};
+// The properties of paths, by what they lead to.
+ghost use Rattle.std.specs.Prelude.{◌≡◌, Some, map};
 ghost use Rattle.smv_text.specs.View.{plain_domain};
-ghost use Rattle.smv_meaning.specs.Names.{local, look, steps_of, found_in};
-ghost use Rattle.smv_meaning.specs.Naming.{unnamed};
-ghost use Rattle.smv_instances.specs.View.{instance_plain, local_plain, found_plain};
-ghost use Rattle.smv_instances.specs.Leads.{is_alias};
+ghost use Rattle.smv_instances.specs.View.{instance_plain, found_plain, Declares};
+ghost use Rattle.smv_types.specs.declared.names.Named.{Named as Stored};
 ghost use Rattle.smv_types.specs.View.{named_seen};
-ghost use Rattle.smv_model_types.specs.Entries.{entries_seen, found_or, entry_or, or_unnamed, variable_or, named_instance, named_symbol, entries_single, entries_walk, entries_names};
+ghost use Rattle.name_maps.specs.Rows.{row_in};
+ghost use Rattle.smv_items.specs.FlatItems.{leaf_found};
+ghost use Rattle.smv_items.specs.FlatOrigins.{leaf_plain};
+ghost use Rattle.smv_model_types.specs.Entries.{entries_seen, found_named, named_variable, or_unnamed, stored_at};
 
-use crate::domains::variable_named;
+use crate::context::Model;
+use crate::domains::{is_input, variable_named};
 use name_maps::{InstanceRows, row_value_in};
-use smv_instances::{Known, Table, Target};
+use smv_instances::Target;
 use smv_intervals::Ty;
-use smv_text::{Domain, Path, VarKind};
+use smv_items::Leaf;
+use smv_text::{Domain, VarKind};
 use smv_types::Named;
-use text_core::Names;
 
-/// The properties of enumerations, definitions and actuals, by instance and name.
-pub(crate) type Entries<'a> = InstanceRows<'a, Named>;
+/// The properties of definitions and actuals, by the numbers of their items.
+pub(crate) type Entries = Vec<Option<Named>>;
 
-fn unnamed() -> Named
-    ensures { named_seen result ≡ unnamed }
-{
-    Named {
-        ty: None,
-        is_instance: false,
-        reaches_input: false,
-    }
-}
+/// The properties of variables that have enumeration types, by instance and name.
+pub(crate) type Enumerations<'a> = InstanceRows<'a, Named>;
 
-fn instance() -> Named
-    ensures { named_seen result ≡ named_instance }
-{
-    Named {
-        ty: None,
-        is_instance: true,
-        reaches_input: false,
-    }
-}
+const UNNAMED: Named = Named {
+    ty: None,
+    is_instance: false,
+    reaches_input: false,
+};
 
-fn symbol() -> Named
-    ensures { named_seen result ≡ named_symbol }
-{
-    Named {
-        ty: Some(Ty::Symbol),
-        is_instance: false,
-        reaches_input: false,
-    }
-}
+const INSTANCE: Named = Named {
+    ty: None,
+    is_instance: true,
+    reaches_input: false,
+};
 
-// The entry of a name that leads to no instance.
-fn entered<'a>(entries: &Entries<'a>, i: usize, x: &[u8]) -> Named
-    ensures { named_seen result ≡ or_unnamed (entries_seen entries.now i x.now) }
-{
-    match row_value_in(entries, i, x) {
-        Some(named) => named,
-        None => unnamed(),
-    }
-}
+const SYMBOL: Named = Named {
+    ty: Some(Ty::Symbol),
+    is_instance: false,
+    reaches_input: false,
+};
 
 // The properties of a variable. Only the type of an enumeration takes more than a step or two to compute from its
 // declaration.
-fn variable<'a>(entries: &Entries<'a>, i: usize, x: &[u8], kind: VarKind, domain: &Domain) -> Named
-    ensures { named_seen result ≡ variable_or kind (plain_domain domain.now) (entries_seen entries.now i x.now) }
+fn variable<'a>(
+    enumerations: &Enumerations<'a>,
+    i: usize,
+    x: &[u8],
+    kind: VarKind,
+    domain: &Domain,
+) -> Named
+    requires { (n : Stored) → row_in enumerations.now i x.now ≡ Some n → named_seen n ≡ named_variable kind (plain_domain domain.now) }
+    ensures { named_seen result ≡ named_variable kind (plain_domain domain.now) }
 {
     match domain {
-        Domain::Members(_) => match row_value_in(entries, i, x) {
+        Domain::Members(_) => match row_value_in(enumerations, i, x) {
             Some(named) => named,
             None => variable_named(kind, domain),
         },
@@ -76,160 +66,59 @@ fn variable<'a>(entries: &Entries<'a>, i: usize, x: &[u8], kind: VarKind, domain
     }
 }
 
-// The properties of an alias: those of its target. The type of an enumeration is stored under the alias too.
-fn alias<'a>(table: &Table<'a>, entries: &Entries<'a>, i: usize, x: &[u8]) -> Named
-    requires alias { is_alias (local (map instance_plain table.now) i x.now) ≡ true }
-    ensures { named_seen result ≡ found_or (entries_seen entries.now) (entries_seen entries.now i x.now) (look (map instance_plain table.now) (steps_of (map instance_plain table.now)) i x.now) }
+// The properties of a definition or an actual, by the number of its item.
+fn body(entries: &Entries, k: usize) -> Named
+    ensures { named_seen result ≡ or_unnamed (stored_at entries.now.items (Some k)) }
 {
-    match table.target_of_alias(i, x) {
-        Target::Variable(_, _, kind, domain) => variable(entries, i, x, kind, domain),
-        Target::Body(j, y, _, _) => entered(entries, j, y),
-        Target::Instance(_) => instance(),
-        Target::Symbol(_) => symbol(),
-        Target::Cyclic => unnamed(),
-        Target::Missing => unnamed(),
+    if k < entries.len() {
+        entries[k].unwrap_or(UNNAMED)
+    } else {
+        UNNAMED
     }
 }
 
-// The properties of a name that leads to no instance, given its meaning in its own instance.
-fn entry<'a>(
-    table: &Table<'a>,
-    entries: &Entries<'a>,
-    i: usize,
-    x: &[u8],
-    known: Known<'a>,
-) -> Named
-    requires known { local_plain known ≡ local (map instance_plain table.now) i x.now }
-    ensures { named_seen result ≡ entry_or (map instance_plain table.now) (entries_seen entries.now) i x.now (local_plain known.entry) }
-{
-    match known {
-        Known::Alias(_, _) => alias(table, entries, i, x),
-        Known::Body(_, _) => entered(entries, i, x),
-        Known::Variable(kind, domain) => variable(entries, i, x, kind, domain),
-        Known::Instance => unnamed(),
-        Known::Nothing => unnamed(),
-    }
-}
-
-// The properties of a name that ends its path, given its meaning in its own instance.
-fn ended<'a>(
-    table: &Table<'a>,
-    entries: &Entries<'a>,
-    i: usize,
-    x: &[u8],
-    known: Known<'a>,
-) -> Named
-    requires known { local_plain known ≡ local (map instance_plain table.now) i x.now }
-    ensures { named_seen result ≡ entries_walk (map instance_plain table.now) (entries_seen entries.now) i (x.now ∷ []) }
-{
-    match table.instance_of_name(i, x, known) {
-        Some(_) => instance(),
-        None => entry(table, entries, i, x, known),
-    }
-}
-
-// The properties of a path of one name, given the name's meaning in its own instance.
-fn single<'a>(
-    table: &Table<'a>,
-    entries: &Entries<'a>,
-    i: usize,
-    x: &[u8],
-    known: Known<'a>,
-) -> Named
-    requires known { local_plain known ≡ local (map instance_plain table.now) i x.now }
-    ensures { named_seen result ≡ entries_single (map instance_plain table.now) (entries_seen entries.now) i x.now (local_plain known.entry) }
-{
-    match known {
-        Known::Alias(_, _) => alias(table, entries, i, x),
-        Known::Body(_, _) => ended(table, entries, i, x, known),
-        Known::Variable(_, _) => ended(table, entries, i, x, known),
-        Known::Instance => ended(table, entries, i, x, known),
-        Known::Nothing => if table.has_symbol(x) {
-            symbol()
-        } else {
-            unnamed()
-        },
-    }
-}
-
-// Steps from name to name.
-#[tactic(auto, using(smv_meaning::specs::laws::Lists::front_is, smv_meaning::specs::laws::Lists::end_is))]
-fn walked<'a>(table: &Table<'a>, entries: &Entries<'a>, i: usize, names: &Names) -> Named
-    ensures { named_seen result ≡ entries_walk (map instance_plain table.now) (entries_seen entries.now) i names.now }
-{
-    let mut at = i;
-    for (k, name) in names.as_slice().iter().enumerate() {
-        let x = name.bytes();
-        let known = table.local(at, x);
-        match (&*table).instance_of_name(at, x, known) {
-            Some(c) => at = c,
-            None => return if k + 1 == names.len() {
-                entry(table, entries, at, x, known)
-            } else {
-                unnamed()
-            },
-        }
-    }
-    instance()
-}
-
-/// Returns the properties of a path, by the entries.
-#[tactic(auto, using(smv_meaning::specs::laws::Lists::front_is, smv_meaning::specs::laws::Lists::end_is))]
-pub(crate) fn path_named<'a>(
-    table: &Table<'a>,
-    entries: &Entries<'a>,
-    i: usize,
-    path: &Path,
-) -> Named
-    ensures { named_seen result ≡ entries_names (map instance_plain table.now) (entries_seen entries.now) i path.now }
-{
-    if !path.from_self && path.names.len() == 1 {
-        let x = path.names.at(0).bytes();
-        return single(&*table, &*entries, i, x, table.local(i, x));
-    }
-    walked(table, entries, i, &path.names)
-}
-
-// The properties of a variable to which a path leads. Only the type of an enumeration takes more than a step or two to
-// compute from its declaration.
-fn variable_on_path<'a>(
-    table: &Table<'a>,
-    entries: &Entries<'a>,
-    i: usize,
-    path: &Path,
-    kind: VarKind,
-    domain: &Domain,
-) -> Named
-    ensures { named_seen result ≡ variable_or kind (plain_domain domain.now) (Some (entries_names (map instance_plain table.now) (entries_seen entries.now) i path.now)) }
-{
-    match domain {
-        Domain::Members(_) => path_named(table, entries, i, path),
-        Domain::Boolean => variable_named(kind, domain),
-        Domain::Between(_, _) => variable_named(kind, domain),
-        Domain::Bits(_) => variable_named(kind, domain),
-        Domain::Instance(_, _) => variable_named(kind, domain),
-    }
-}
-
-/// Returns the properties of a path, by the entries, given its target.
-pub(crate) fn target_named<'a>(
-    table: &Table<'a>,
-    entries: &Entries<'a>,
-    i: usize,
-    path: &Path,
+/// Returns the properties of a target by the entries, given its translation.
+pub(crate) fn target_named<'s, 'a, 'n>(
+    model: &Model<'s, 'a, 'n>,
+    entries: &Entries,
     target: Target,
+    leaf: Leaf,
 ) -> Named
-    requires target { found_plain (map instance_plain table.now) target ≡ found_in (map instance_plain table.now) i path.now }
-    ensures { named_seen result ≡ entries_names (map instance_plain table.now) (entries_seen entries.now) i path.now }
+    requires declared { Declares (map instance_plain model.now.table.now) target }
+    requires leaf { leaf_plain leaf ≡ leaf_found (map instance_plain model.now.table.now) (found_plain (map instance_plain model.now.table.now) target) }
+    ensures { named_seen result ≡ found_named (entries_seen model.now.numbers.now.bodies entries.now.items) (found_plain (map instance_plain model.now.table.now) target.entry) }
 {
     match target {
-        Target::Variable(_, _, kind, domain) => {
-            variable_on_path(table, entries, i, path, kind, domain)
-        }
-        Target::Body(j, x, _, _) => entered(entries, j, x),
-        Target::Instance(_) => instance(),
-        Target::Symbol(_) => symbol(),
-        Target::Cyclic => unnamed(),
-        Target::Missing => unnamed(),
+        Target::Variable(i, x, kind, domain) => variable(model.enumerations, i, x, kind, domain),
+        Target::Body(_, _, _, _) => match leaf {
+            Leaf::Item(k) => body(entries, k as usize),
+            Leaf::Symbol(_) => UNNAMED,
+            Leaf::Nothing => UNNAMED,
+        },
+        Target::Instance(_) => INSTANCE,
+        Target::Symbol(_) => SYMBOL,
+        Target::Cyclic => UNNAMED,
+        Target::Missing => UNNAMED,
+    }
+}
+
+/// Returns whether a target is an input, or a definition or an actual that reaches one by the entries.
+pub(crate) fn target_reaches<'s, 'a, 'n>(
+    model: &Model<'s, 'a, 'n>,
+    entries: &Entries,
+    target: Target,
+) -> bool
+    ensures { result ≡ (found_named (entries_seen model.now.numbers.now.bodies entries.now.items) (found_plain (map instance_plain model.now.table.now) target.entry)).reaches_input }
+{
+    match target {
+        Target::Variable(_, _, kind, _) => is_input(kind),
+        Target::Body(i, x, _, _) => match row_value_in(&model.numbers.bodies, i, x) {
+            Some(k) => body(entries, k).reaches_input,
+            None => false,
+        },
+        Target::Instance(_) => false,
+        Target::Symbol(_) => false,
+        Target::Cyclic => false,
+        Target::Missing => false,
     }
 }

@@ -1,30 +1,31 @@
 // The variables of a model that have enumeration types, each typed once.
 ghost use Rattle.std.specs.Prelude.{map, IfOk, OnOk};
-ghost use Rattle.smv_meaning.specs.Names.{local};
-ghost use Rattle.smv_meaning.specs.Settled.{Acyclic};
 ghost use Rattle.smv_instances.specs.View.{instance_plain};
-ghost use Rattle.smv_model_types.specs.Entries.{entries_seen, variable_put, Becomes, Right};
+ghost use Rattle.smv_model_types.specs.Entries.{AreEnumerations};
 
 use crate::domains::variable_named;
-use crate::names::Entries;
+use crate::names::Enumerations;
 use name_maps::{add_row_in, no_rows_in};
-use smv_instances::{Known, Table, names_in_all};
+use smv_instances::{Known, Table};
 use smv_items::{Content, Origin};
-use smv_laws::names_settle;
 use smv_text::Domain;
 use std::alloc::Global;
 use text_core::NoMemory;
 
+// Types a variable and stores its properties.
 fn put_variable<'a>(
     table: &Table<'a>,
-    entries: &mut Entries<'a>,
+    enumerations: &mut Enumerations<'a>,
     i: usize,
     x: &'a [u8],
 ) -> Result<(), NoMemory>
-    ensures { OnOk result (Becomes (entries_seen entries.old) (i, x.now) (variable_put (local (map instance_plain table.now) i x.now)) (entries_seen entries.new)) }
+    requires { AreEnumerations (map instance_plain table.now) enumerations.old }
+    ensures { OnOk result (AreEnumerations (map instance_plain table.now) enumerations.new) }
 {
     match table.local(i, x) {
-        Known::Variable(kind, domain) => add_row_in(entries, i, x, variable_named(kind, domain)),
+        Known::Variable(kind, domain) => {
+            add_row_in(enumerations, i, x, variable_named(kind, domain))
+        }
         Known::Alias(_, _) => Ok(()),
         Known::Body(_, _) => Ok(()),
         Known::Instance => Ok(()),
@@ -32,38 +33,37 @@ fn put_variable<'a>(
     }
 }
 
-// The type of an enumeration is computed once; any other takes only a step or two to compute from the declaration.
-fn put_origin<'a>(
-    table: &Table<'a>,
-    entries: &mut Entries<'a>,
-    origin: &Origin<'a>,
-) -> Result<(), NoMemory>
-    requires acyclic { Acyclic (map instance_plain table.now) }
-    requires right { Right (map instance_plain table.now) (entries_seen entries.old) }
-    ensures { OnOk result (Right (map instance_plain table.now) (entries_seen entries.new)) }
-{
-    names_settle();
-    match origin.content {
-        Content::Variable(_, Domain::Members(_)) => {
-            put_variable(table, entries, origin.instance as usize, origin.name)?;
-            Ok(())
+// The number of variables that have enumeration types. Most models have few, and need little room for them.
+fn enumeration_count(origins: &[Origin]) -> usize {
+    let mut count: usize = 0;
+    for origin in origins {
+        if let Content::Variable(_, Domain::Members(_)) = origin.content {
+            count = count.saturating_add(1);
         }
-        _ => Ok(()),
     }
+    count
 }
 
-/// Returns the entries of these variables with enumeration types.
-pub(crate) fn variables_of<'a>(
+/// Returns the properties of those variables that have enumeration types.
+///
+/// The type of an enumeration is computed once; any other takes only a step or two to compute from the declaration.
+pub(crate) fn enumerations_of<'a>(
     alloc: Global,
     table: &Table<'a>,
     origins: &[Origin<'a>],
-) -> Result<Entries<'a>, NoMemory>
-    requires acyclic { Acyclic (map instance_plain table.now) }
-    ensures { IfOk result (λ entries. Right (map instance_plain table.now) (entries_seen entries)) }
+) -> Result<Enumerations<'a>, NoMemory>
+    ensures { IfOk result (AreEnumerations (map instance_plain table.now)) }
 {
-    let mut entries = no_rows_in(alloc, names_in_all(table.list()))?;
+    let mut enumerations = no_rows_in(alloc, enumeration_count(origins))?;
     for origin in origins {
-        put_origin(table, &mut entries, origin)?;
+        if let Content::Variable(_, Domain::Members(_)) = origin.content {
+            put_variable(
+                table,
+                &mut enumerations,
+                origin.instance as usize,
+                origin.name,
+            )?;
+        }
     }
-    Ok(entries)
+    Ok(enumerations)
 }

@@ -5,4 +5,4 @@ pub mod FirstPart
 pub mod Visiting
 pub mod PathLemmas
 pub mod CycleLemmas
-pub mod AssignLemmas
+pub mod InvariantLengths

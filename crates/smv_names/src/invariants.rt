@@ -1,5 +1,5 @@
 // The count of a model's invariants.
-ghost use Rattle.std.specs.Prelude.{◌≡◌, ◌-◌, ◌∷◌, [], ℕ, map, flat_map, length, nat_lt};
+ghost use Rattle.std.specs.Prelude.{◌≡◌, ◌<◌, ◌+◌, ◌^◌, ◌∷◌, [], ℕ, map, flat_map, length, nat_lt, IfOk};
 ghost use Rattle.smv_text.specs.View.{plain_element};
 ghost use Rattle.smv_meaning.specs.Checks.{check};
 ghost use Rattle.smv_meaning.specs.Phases.{element_invariants, invariants_in};
@@ -12,45 +12,49 @@ use smv_text::{Element, Elements};
 use text_core::kinds::smv;
 use text_core::{Place, Refusal};
 
-// The number of invariants that are still missing after an element.
-fn missing_after(missing: u64, element: &Element) -> u64
-    ensures { (i : ℕ) → result ≡ missing - length (element_invariants i (plain_element element.now)) }
+// The count, incremented if the element is an invariant.
+fn counted(count: u32, element: &Element) -> u32
+    requires { count + length (element_invariants 0 (plain_element element.now)) < 2 ^ 32 }
+    ensures { (i : ℕ) → result ≡ count + length (element_invariants i (plain_element element.now)) }
 {
     match element {
-        Element::Vars(_, _) => missing,
-        Element::Defines(_) => missing,
-        Element::Constants(_) => missing,
-        Element::Assigns(_) => missing,
-        Element::Init(_) => missing,
-        Element::Trans(_) => missing,
-        Element::Invar(_) => missing,
-        Element::Spec(_, _) => missing.saturating_sub(1),
+        Element::Vars(_, _) => count,
+        Element::Defines(_) => count,
+        Element::Constants(_) => count,
+        Element::Assigns(_) => count,
+        Element::Init(_) => count,
+        Element::Trans(_) => count,
+        Element::Invar(_) => count,
+        Element::Spec(_, _) => count + 1,
     }
 }
 
-// The number of invariants that are still missing after these elements.
-fn missing_behind(missing: u64, elements: &Elements) -> u64
-    ensures { (i : ℕ) → result ≡ missing - length (flat_map (element_invariants i) (map plain_element elements.now)) }
+// The count with the invariants among these elements.
+fn counted_all(count: u32, elements: &Elements) -> u32
+    requires { count + length (flat_map (element_invariants 0) (map plain_element elements.now)) < 2 ^ 32 }
+    ensures { (i : ℕ) → result ≡ count + length (flat_map (element_invariants i) (map plain_element elements.now)) }
 {
-    let mut missing = missing;
+    let mut all = count;
     for element in elements.as_slice() {
-        missing = missing_after(missing, element);
+        all = counted(all, element);
     }
-    missing
+    all
 }
 
-/// Checks that the model, over all its instances, has an invariant with this number.
+/// Checks that the model, over all its instances, has an invariant with this number, and returns how many it has.
 ///
 /// Otherwise `Err` is S27 at the end of the text.
-pub fn invariants_checked(table: &Table, end: Place, needed: u32) -> Result<(), NamesEnd>
-    ensures { Settles result (check 27 end (nat_lt needed (length (invariants_in (map instance_plain table.now)))) ∷ []) }
+pub fn invariants_checked(table: &Table, end: Place, needed: u32) -> Result<u32, NamesEnd>
+    requires { length (invariants_in (map instance_plain table.now)) < 2 ^ 32 }
+    ensures checks { Settles result (check 27 end (nat_lt needed (length (invariants_in (map instance_plain table.now)))) ∷ []) }
+    ensures count { IfOk result (λ n. n ≡ length (invariants_in (map instance_plain table.now))) }
 {
-    let mut missing = needed as u64 + 1;
+    let mut count: u32 = 0;
     for part in table.list() {
-        missing = missing_behind(missing, &part.module.elements);
+        count = counted_all(count, &part.module.elements);
     }
-    if missing == 0 {
-        Ok(())
+    if needed < count {
+        Ok(count)
     } else {
         Err(NamesEnd::Bad(Refusal {
             kind: smv::NO_INVARSPEC,

@@ -13,11 +13,11 @@ mod paths;
 mod sizes;
 mod visits;
 
-pub use assignments::assignments_checked;
+pub use assignments::{NumberedAssignment, assignments_checked, is_assignable};
 pub use cycles::cycles_checked;
 pub use declarations::declarations_checked;
 pub use ends::NamesEnd;
 pub use invariants::invariants_checked;
 pub use module_names::modules_checked;
 pub use paths::paths_checked;
-pub use sizes::sizes_checked;
+pub use sizes::{SizedModel, sizes_checked};

@@ -7,10 +7,10 @@ ghost use Rattle.smv_meaning.specs.Phases.{is_something, path_check, path_checks
 ghost use Rattle.smv_instances.specs.View.{instance_plain, found_plain};
 ghost use Rattle.smv_references.specs.View.{path_seen};
 ghost use Rattle.smv_names.specs.Outcome.{Settles};
-ghost use Rattle.smv_names.specs.Paths.{assignment_paths, definition_paths, LedSomewhere};
+ghost use Rattle.smv_names.specs.Paths.{assignment_paths, definition_paths};
 
 use crate::ends::NamesEnd;
-use smv_instances::{Instance, Table, Target, is_same_name};
+use smv_instances::{Instance, Table, Target};
 use smv_references::{put_all_paths, put_paths};
 use smv_text::{Assignments, Definitions, Element, Elements, Path};
 use std::alloc::Global;
@@ -30,39 +30,18 @@ fn is_something(target: Target) -> bool
     }
 }
 
-// Whether a path has a target, given one before it that has. Often both are the same, as the targets of `init(v)` and
-// `next(v)`.
-fn leads_somewhere<'a>(
-    table: &Table<'a>,
-    i: usize,
-    path: &'a Path,
-    before: Option<&'a Path>,
-) -> bool
-    requires { LedSomewhere (map instance_plain table.now) i before }
-    ensures { result ≡ is_something (found_in (map instance_plain table.now) i path.now) }
-{
-    if let Some(before) = before {
-        if is_same_name(before, path) {
-            return true;
-        }
-    }
-    is_something(table.target(i, path))
-}
-
 // Checks the paths, read in the instance with this number.
 fn all_checked<'a>(table: &Table<'a>, i: usize, paths: &[&'a Path]) -> Result<(), NamesEnd>
     ensures { Settles result (map (path_check (found_in (map instance_plain table.now)) i) (map path_seen paths.now)) }
 {
-    let mut last = None;
     for path in paths {
         let path = *path;
-        if !leads_somewhere(table, i, path, last) {
+        if !is_something(table.target(i, path)) {
             return Err(NamesEnd::Bad(Refusal {
                 kind: smv::UNKNOWN,
                 place: path.place,
             }));
         }
-        last = Some(path);
     }
     Ok(())
 }

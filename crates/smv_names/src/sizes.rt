@@ -1,5 +1,5 @@
 // The size of a model, and names of main that are symbols.
-ghost use Rattle.std.specs.Prelude.{◌≡◌, map, not, sum_by, nat_le, slice_get, IfOk};
+ghost use Rattle.std.specs.Prelude.{◌≡◌, ℕ, map, not, sum_by, nat_le, slice_get, if◌then◌else◌, Some, None, IfOk};
 ghost use Rattle.smv_text.specs.View.{plain_source};
 ghost use Rattle.smv_meaning.specs.Instances.{instances_of};
 ghost use Rattle.smv_meaning.specs.Names.{has_symbol};
@@ -18,20 +18,27 @@ use text_core::kinds::smv;
 use text_core::{FIRST_PLACE, NoMemory, Refusal};
 
 /// The most tokens of the modules' bodies, summed over the instances.
-const MOST_TOKENS: u64 = 200_000;
+const MOST_TOKENS: u32 = 200_000;
 
-// Whether the weight is within the limit.
-fn is_light(parts: &[Instance]) -> bool
-    ensures { result ≡ nat_le (sum_by (λ at. at.module.tokens) (map instance_plain parts.now)) most_tokens }
+/// The instances of a model, and its weight: the tokens of the modules' bodies, summed over the instances.
+#[derive(Drop)]
+pub struct SizedModel<'a> {
+    pub table: Table<'a>,
+    pub weight: u32,
+}
+
+// The weight, or None where it is over the limit.
+fn weight_within(parts: &[Instance]) -> Option<u32>
+    ensures { let weight : ℕ = sum_by (λ at. at.module.tokens) (map instance_plain parts.now) in result ≡ (if nat_le weight most_tokens then Some weight else None) }
 {
-    let mut weight: u64 = 0;
+    let mut weight: u32 = 0;
     for part in parts {
-        weight += part.module.tokens as u64;
-        if weight > MOST_TOKENS {
-            return false;
+        if MOST_TOKENS - weight < part.module.tokens {
+            return None;
         }
+        weight += part.module.tokens;
     }
-    true
+    Some(weight)
 }
 
 // The refusal of the first declared name that is a symbol.
@@ -61,23 +68,24 @@ fn main_failing(alloc: Global, table: &Table) -> Result<Option<Refusal>, NoMemor
     Ok(symbol_failing(table, list.as_slice()))
 }
 
-/// Checks the size of a model that passes the first two phases, and returns the table of its instances.
+/// Checks the size of a model that passes the first two phases, and returns the table of its instances and its weight.
 ///
 /// The weight is within the limit (S28), and no name of main is a symbol (S10).
-pub fn sizes_checked<'a>(alloc: Global, source: &'a Source) -> Result<Table<'a>, NamesEnd>
+pub fn sizes_checked<'a>(alloc: Global, source: &'a Source) -> Result<SizedModel<'a>, NamesEnd>
     ensures checks { Settles result (size_checks (plain_source source.now)) }
-    ensures table { IfOk result (λ t. map instance_plain t ≡ instances_of (plain_source source.now)) }
+    ensures table { IfOk result (λ s. map instance_plain s.table ≡ instances_of (plain_source source.now)) }
+    ensures weight { IfOk result (λ s. s.weight ≡ sum_by (λ at. at.module.tokens) (map instance_plain s.table)) }
 {
     let parts = instance_list(alloc, source)?;
-    if !is_light(parts.as_slice()) {
+    let Some(weight) = weight_within(parts.as_slice()) else {
         return Err(NamesEnd::Bad(Refusal {
             kind: smv::TOO_LARGE,
             place: FIRST_PLACE,
         }));
-    }
+    };
     let table = Table::over(alloc, parts)?;
     match main_failing(alloc, &table)? {
-        None => Ok(table),
+        None => Ok(SizedModel { table, weight }),
         Some(why) => Err(NamesEnd::Bad(why)),
     }
 }

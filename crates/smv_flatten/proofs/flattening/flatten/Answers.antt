@@ -1,9 +1,11 @@
-use Rattle.std.proofs.Common.{List, map, sym, subst}
+use Rattle.std.proofs.Common.{List, [], map, sym, ap, subst, ◌∙◌}
 use Rattle.smv_text.specs.View.{plain_source}
 use Rattle.smv_meaning.specs.Bodies.{IsBodyOrder}
+use Rattle.smv_meaning.specs.Checks.{first_failing}
 use Rattle.smv_meaning.specs.Instances.{Instance}
 use Rattle.smv_instances.specs.View.{instance_plain}
 use Rattle.smv_flat.specs.FlatForms.{flat_of}
+use Rattle.smv_names.specs.Assigning.{numbered_checks}
 use Rattle.smv_flat_laws.specs.FlatOrders.{IsItemOrder, item_order}
 use Rattle.smv_flat_laws.proofs.ItemOrders.{flat_is_ordered_law}
 use Rattle.smv_flatten.specs.FlatModel.{AreOfModel}
@@ -13,22 +15,22 @@ use Rattle.smv_flatten.proofs.flattening.flatten.Goals as goal
 pub flattened-requires-clause-order : goal.flattened-requires-clause-order
 flattened-requires-clause-order c =
     let source = plain_source c.args.source.now in
-    let t = map instance_plain c.in_ok-table.table in
-    let same = c.in_ok-table.ensures.table in
+    let t = map instance_plain c.in_ok-model.model.table in
+    let same = c.in_ok-model.ensures.table in
     let order = c.in_ok-ordered.ordered.order in
-    let passes = accepted source c.args.needed t same c.in_ok-table.ensures.checks c.in_ok-ordered.ensures.checks c.in_ok-contents.ensures.checks c.in_ok-assignments_checked.ensures c.in_ok-invariants_checked.ensures in
+    let passes = accepted source c.args.needed t same c.in_ok-model.ensures.checks c.in_ok-ordered.ensures.checks c.in_ok-contents.ensures.checks (sym c.in_ok-contents.ensures.assigned ∙ ap (λ l. first_failing (numbered_checks [] l)) (sym c.deref.ensures.value) ∙ c.in_ok-assignments_checked.ensures) c.in_ok-invariants.ensures.checks in
     let law = flat_is_ordered_law source c.args.needed passes order (subst (λ (t : List Instance). IsBodyOrder t order) same c.in_ok-ordered.ensures.order) in
     subst (IsItemOrder (flat_of t)) (sym c.in_ok-contents.ensures.order) (subst (λ (t : List Instance). IsItemOrder (flat_of t) (item_order t order)) (sym same) law)
 
 pub flattened-requires-clause-model : goal.flattened-requires-clause-model
 flattened-requires-clause-model c =
     let source = plain_source c.args.source.now in
-    let t = map instance_plain c.in_ok-table.table in
-    let same = c.in_ok-table.ensures.table in
-    let passes = accepted source c.args.needed t same c.in_ok-table.ensures.checks c.in_ok-ordered.ensures.checks c.in_ok-contents.ensures.checks c.in_ok-assignments_checked.ensures c.in_ok-invariants_checked.ensures in
+    let t = map instance_plain c.in_ok-model.model.table in
+    let same = c.in_ok-model.ensures.table in
+    let passes = accepted source c.args.needed t same c.in_ok-model.ensures.checks c.in_ok-ordered.ensures.checks c.in_ok-contents.ensures.checks (sym c.in_ok-contents.ensures.assigned ∙ ap (λ l. first_failing (numbered_checks [] l)) (sym c.deref.ensures.value) ∙ c.in_ok-assignments_checked.ensures) c.in_ok-invariants.ensures.checks in
     subst (λ (t : List Instance). AreOfModel t) (sym same) (are_of_model source c.args.needed c.requires.read passes)
 
 pub returns-clause-passes : goal.returns-clause-passes
 returns-clause-passes c =
-    accepted (plain_source c.args.source.now) c.args.needed (map instance_plain c.in_ok-table.table) c.in_ok-table.ensures.table c.in_ok-table.ensures.checks c.in_ok-ordered.ensures.checks c.in_ok-contents.ensures.checks
-    c.in_ok-assignments_checked.ensures c.in_ok-invariants_checked.ensures
+    accepted (plain_source c.args.source.now) c.args.needed (map instance_plain c.in_ok-model.model.table) c.in_ok-model.ensures.table c.in_ok-model.ensures.checks c.in_ok-ordered.ensures.checks c.in_ok-contents.ensures.checks
+    (sym c.in_ok-contents.ensures.assigned ∙ ap (λ l. first_failing (numbered_checks [] l)) (sym c.deref.ensures.value) ∙ c.in_ok-assignments_checked.ensures) c.in_ok-invariants.ensures.checks

@@ -14,11 +14,11 @@ returns-clause-width c =
 pub invariant_of-result : goal.invariant_of-result
 invariant_of-result c =
     let t = map instance_plain c.args.table.now in
-    let f : FlatModel = record { items = c.of.result; symbols = c.args.contents.symbols; formulas = c.of-2.result; width = c.width_of-width.result; weight = c.weight_in.result; invariants = c.invariant_count.result } in
+    let f : FlatModel = record { items = c.of.result; symbols = c.args.contents.symbols; formulas = c.of-2.result; width = c.width_of-width.result; weight = c.args.weight; invariants = c.args.invariants } in
     let form = parts_are t f (ap (map item_plain) c.of.ensures ∙ c.requires.items) c.requires.symbols (ap (map form_plain) c.of-2.ensures ∙ c.requires.formulas) in
     let width = c.width_of-width.ensures.value (flat_of t) (sym (ap (map item_plain) c.deref.ensures.value ∙ c.requires.items)) (sym (ap (map form_plain) c.deref-2.ensures.value ∙ c.requires.formulas)) in (
       c.width_of-width.ensures.some,
       c.width_of-width.ensures.bound,
-      c.requires.model f form width c.weight_in.ensures c.invariant_count.ensures,
+      c.requires.model f form width c.requires.weight c.requires.invariants,
       ordered f (flat_of t) c.args.contents.order c.args.contents.order c.requires.order form refl,
     )

@@ -14,7 +14,7 @@ pub returns-clause-right : goal.returns-clause-right
 returns-clause-right c =
     let t = map instance_plain c.args.parts.now in
     right_more t c.args.leads.now c.add_row_in.new.map c.args.key.instance c.args.key.name.now _ c.requires.right
-    c.requires.leads.0 c.in_ok-add_row_in.ensures
+    c.requires.leads.0 c.requires.leads.3 c.in_ok-add_row_in.ensures
 
 pub returns-clause-counted : goal.returns-clause-counted
 returns-clause-counted c =

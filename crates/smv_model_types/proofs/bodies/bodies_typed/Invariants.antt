@@ -9,4 +9,4 @@ use Rattle.smv_model_types.proofs.bodies.bodies_typed.Given as goal
 abbrev pub invariant-loop-number : goal.invariant-loop-number
 invariant-loop-number l =
     let t = map instance_plain l.model.table.now in
-    Holds t (entries_seen l.entries) (map (numbered t) (take l.number-index l.number-items)) × AreKept t l.kept.items
+    Holds t (entries_seen l.model.numbers.now.bodies l.entries.items) (map (numbered t) (take l.number-index l.number-items)) × AreKept t l.kept.items

@@ -8,6 +8,7 @@ use Rattle.smv_meaning.specs.laws.Composing.{ends}
 use Rattle.smv_instances.specs.View.{instance_plain}
 use Rattle.smv_intervals.specs.View.{seen}
 use Rattle.smv_types.specs.Outcome.{outcome}
+use Rattle.smv_model_types.specs.Entries.{entries_seen, found_named}
 use Rattle.smv_model_types.proofs.BuildingLaws.{fit_fails, fit_passes}
 use Rattle.smv_model_types.proofs.building.add_assignment.Goals as goal
 
@@ -26,10 +27,11 @@ returns-then-not-are_same-clause-checks c =
     let body = plain c.args.assignment.now.body in
     let a = typing names (in_assignment c.args.assignment.now.when) body in
     let target = (names c.args.assignment.now.target).type in
+    let entries = entries_seen c.args.context.now.model.now.numbers.now.bodies c.args.context.now.entries.now.items in
     let o = option_map seen c.in_ok-value.value.ty in
     let told = subst (λ (at : Position). outcome (typing names at body) ≡ Ok o) c.position_of-position.ensures c.in_ok-value.ensures.0 in
     fit_fails a (place_of body) o (λ (t : Option ExprType). on_types target t type_same) told
-    (ap (λ t. on_types t o type_same) (sym (ap (λ (n : Named). n.type) c.in_ok-target.ensures.named)) ∙ sym c.if-not-are_same.ensures)
+    (ap (λ t. on_types t o type_same) (sym (ap (λ (n : Named). n.type) (c.in_ok-target.ensures.named ∙ ap (found_named entries) c.target-found.ensures.found ∙ c.args.context.now.right c.args.i c.args.assignment.now.target))) ∙ sym c.if-not-are_same.ensures)
     ∙ ap (λ p. Some (check 16 p false).refusal) (sym c.place.ensures)
 
 pub returns-clause-checks : goal.returns-clause-checks
@@ -38,7 +40,8 @@ returns-clause-checks c =
     let body = plain c.args.assignment.now.body in
     let a = typing names (in_assignment c.args.assignment.now.when) body in
     let target = (names c.args.assignment.now.target).type in
+    let entries = entries_seen c.args.context.now.model.now.numbers.now.bodies c.args.context.now.entries.now.items in
     let o = option_map seen c.in_ok-value.value.ty in
     let told = subst (λ (at : Position). outcome (typing names at body) ≡ Ok o) c.position_of-position.ensures c.in_ok-value.ensures.0 in
     fit_passes a (place_of body) o (λ (t : Option ExprType). on_types target t type_same) told
-    (ap (λ t. on_types t o type_same) (sym (ap (λ (n : Named). n.type) c.in_ok-target.ensures.named)) ∙ sym c.are_same.ensures ∙ c.if-not-are_same.false)
+    (ap (λ t. on_types t o type_same) (sym (ap (λ (n : Named). n.type) (c.in_ok-target.ensures.named ∙ ap (found_named entries) c.target-found.ensures.found ∙ c.args.context.now.right c.args.i c.args.assignment.now.target))) ∙ sym c.are_same.ensures ∙ c.if-not-are_same.false)

@@ -5,8 +5,7 @@ use Rattle.smv_text.specs.View.{plain_definition}
 use Rattle.smv_meaning.specs.Settled.{types_in}
 use Rattle.smv_instances.specs.View.{instance_plain}
 use Rattle.smv_items.specs.FlatItems.{Origin, definition_item}
-use Rattle.smv_flat.specs.FlatForms.{Form}
-use Rattle.smv_model_types.specs.Building.{Adds, IsReady}
+use Rattle.smv_model_types.specs.Building.{Piece, Adds, IsReady}
 use Rattle.smv_model_types.specs.Outcome.{definition_typing}
 use Rattle.smv_model_types.proofs.BuildingLaws.{definition_adds}
 use Rattle.smv_model_types.proofs.Ready.{definition_next}
@@ -77,6 +76,6 @@ returns-clause-adds c =
     let old = c.args.built.now in
     let now = c.loop-definition.built in
     subst (λ ms. Adds t ms [] old now) (singles (definition_item c.args.i) all)
-    (subst (λ (fs : List Form). Adds t (flat_map m all) fs old now) (none_all all)
+    (subst (λ (ps : List Piece). Adds t (flat_map m all) ps old now) (none_all all)
     (walks_end t f m adds_none all old now
     (walks_over t f m adds_none all old plain_definition (iter_rest c.loop-definition.definition-iterator) now c.in-None.ensures.steps.0 c.loop-definition.invariant)))

@@ -2,11 +2,11 @@ use Rattle.std.proofs.Common.{rules, ◌≡◌, true, map, subst}
 use Rattle.std.specs.Slice.Iter.{iter_rest}
 use Rattle.smv_meaning.specs.Settled.{types_in}
 use Rattle.smv_instances.specs.View.{instance_plain}
+use Rattle.smv_model_types.specs.Building.{element_pieces}
 use Rattle.smv_model_types.proofs.Walks.{Walks, walks_over, walks_start, walks_here, walks_step, walks_stop, walks_checks, walks_end, walks_ready}
 use Rattle.smv_text.specs.View.{plain_element}
 use Rattle.smv_meaning.specs.Phases.{element_typing}
 use Rattle.smv_items.specs.FlatItems.{element_items}
-use Rattle.smv_flat.specs.FlatForms.{element_forms}
 use Rattle.smv_model_types.proofs.building.add_elements.Goals as goal
 
 pub loop-element-init : goal.loop-element-init
@@ -14,7 +14,7 @@ loop-element-init c =
     let t = map instance_plain c.args.context.now.model.now.table.now in
     let f = element_typing (types_in true t c.args.i) in
     let m = element_items c.args.i in
-    let g = element_forms t c.args.i in
+    let g = element_pieces t c.args.i in
     let all = map plain_element c.args.elements.now in
     let e : c.args.elements.now ≡ iter_rest c.into_iter-element-iterator.result = search (rules, c.into_iter-element-iterator.ensures) in
     subst (λ xs. Walks t f m g all c.args.built.now (map plain_element xs) c.args.built.now) e (walks_start t f m g all c.args.built.now)
@@ -24,7 +24,7 @@ add_element-requires c =
     let t = map instance_plain c.args.context.now.model.now.table.now in
     let f = element_typing (types_in true t c.args.i) in
     let m = element_items c.args.i in
-    let g = element_forms t c.args.i in
+    let g = element_pieces t c.args.i in
     let all = map plain_element c.args.elements.now in
     let rest = iter_rest c.next.new.self in
     record { ready = walks_ready t f m g all c.args.built.now (plain_element c.in-Some.element.now) (map plain_element rest) c.loop-element.built (walks_here t f m g all c.args.built.now plain_element (iter_rest c.loop-element.element-iterator) c.in-Some.element.now rest c.loop-element.built c.in-Some.ensures.steps c.loop-element.invariant) c.requires.ready }
@@ -34,7 +34,7 @@ loop-element-preserved c =
     let t = map instance_plain c.args.context.now.model.now.table.now in
     let f = element_typing (types_in true t c.args.i) in
     let m = element_items c.args.i in
-    let g = element_forms t c.args.i in
+    let g = element_pieces t c.args.i in
     let all = map plain_element c.args.elements.now in
     let rest = iter_rest c.next.new.self in
     walks_step t f m g all c.args.built.now (plain_element c.in-Some.element.now) (map plain_element rest) c.loop-element.built c.add_element.new.built (walks_here t f m g all c.args.built.now plain_element (iter_rest c.loop-element.element-iterator) c.in-Some.element.now rest c.loop-element.built c.in-Some.ensures.steps c.loop-element.invariant)
@@ -45,7 +45,7 @@ returns-in_err-add_element-clause-checks c =
     let t = map instance_plain c.args.context.now.model.now.table.now in
     let f = element_typing (types_in true t c.args.i) in
     let m = element_items c.args.i in
-    let g = element_forms t c.args.i in
+    let g = element_pieces t c.args.i in
     let all = map plain_element c.args.elements.now in
     let rest = iter_rest c.next.new.self in
     let stop = walks_stop t f m g all c.args.built.now (plain_element c.in-Some.element.now) (map plain_element rest) c.loop-element.built c.in_err-add_element.field-0.0 (walks_here t f m g all c.args.built.now plain_element (iter_rest c.loop-element.element-iterator) c.in-Some.element.now rest c.loop-element.built c.in-Some.ensures.steps c.loop-element.invariant)
@@ -57,7 +57,7 @@ returns-clause-checks c =
     let t = map instance_plain c.args.context.now.model.now.table.now in
     let f = element_typing (types_in true t c.args.i) in
     let m = element_items c.args.i in
-    let g = element_forms t c.args.i in
+    let g = element_pieces t c.args.i in
     let all = map plain_element c.args.elements.now in
     walks_checks t f m g all c.args.built.now c.loop-element.built
     (walks_over t f m g all c.args.built.now plain_element (iter_rest c.loop-element.element-iterator) c.loop-element.built c.in-None.ensures.steps.0 c.loop-element.invariant)
@@ -67,7 +67,7 @@ returns-clause-adds c =
     let t = map instance_plain c.args.context.now.model.now.table.now in
     let f = element_typing (types_in true t c.args.i) in
     let m = element_items c.args.i in
-    let g = element_forms t c.args.i in
+    let g = element_pieces t c.args.i in
     let all = map plain_element c.args.elements.now in
     let old = c.args.built.now in
     let now = c.loop-element.built in

@@ -37,4 +37,4 @@ returns-clause-checks c =
 pub returns-clause-adds : goal.returns-clause-adds
 returns-clause-adds c =
     instance_added (map instance_plain c.args.context.now.model.now.table.now) c.args.i c.unwrap_or-parent.result (instance_plain c.args.at.now) c.args.built.now c.add_actuals.new.built c.add_elements.new.built _
-    c.unwrap_or-parent.ensures c.requires.none c.in_ok-add_actuals.ensures.adds c.in_ok-add_elements.ensures.adds c.in_ok-append.ensures.items c.in_ok-append.ensures.other_items refl refl
+    c.unwrap_or-parent.ensures c.requires.none c.in_ok-add_actuals.ensures.adds c.in_ok-add_elements.ensures.adds c.in_ok-append.ensures.items c.in_ok-append.ensures.other_items refl refl refl

@@ -3,8 +3,7 @@ use Rattle.std.specs.Slice.Iter.{iter_rest}
 use Rattle.smv_text.specs.declared.tree.VarKind.TheVariants as OfVarKind
 use Rattle.smv_text.specs.View.{plain_item}
 use Rattle.smv_items.specs.FlatItems.{variable_item}
-use Rattle.smv_flat.specs.FlatForms.{Form}
-use Rattle.smv_model_types.specs.Building.{Adds}
+use Rattle.smv_model_types.specs.Building.{Piece, Adds}
 use Rattle.smv_model_types.specs.Outcome.{item_typing}
 use Rattle.smv_model_types.proofs.Walks.{Walks, walks_over, adds_none, none_all, walks_start, walks_here, walks_step, walks_stop, walks_checks, walks_end}
 use Rattle.smv_model_types.proofs.building.add_items.Goals as goal
@@ -48,6 +47,6 @@ returns-clause-adds c = λ t i kind.
     let all = map plain_item c.args.items.now in
     let old = c.args.built.now in
     let now = c.loop-item.built in
-    subst (λ (fs : List Form). Adds t (flat_map m all) fs old now) (none_all all)
+    subst (λ (ps : List Piece). Adds t (flat_map m all) ps old now) (none_all all)
     (walks_end t item_typing m adds_none all old now
     (walks_over t item_typing m adds_none all old plain_item (iter_rest c.loop-item.item-iterator) now c.in-None.ensures.steps.0 (c.loop-item.invariant t i kind)))

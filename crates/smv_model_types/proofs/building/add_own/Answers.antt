@@ -3,8 +3,7 @@ use Rattle.smv_text.specs.declared.tree.Expr.{Expr}
 use Rattle.smv_meaning.specs.laws.Lists.{front_is, end_is}
 use Rattle.smv_meaning.specs.Settled.{types_in}
 use Rattle.smv_instances.specs.View.{instance_plain}
-use Rattle.smv_flat.specs.FlatForms.{Form}
-use Rattle.smv_model_types.specs.Building.{Adds}
+use Rattle.smv_model_types.specs.Building.{Piece, Adds}
 use Rattle.smv_model_types.proofs.Walks.{Walks, adds_none, none_all, walks_here, walks_step, walks_stop, walks_checks, walks_end, walks_ready}
 use Rattle.smv_text.specs.Tree.{Tree}
 use Rattle.smv_text.specs.View.{plain}
@@ -17,7 +16,7 @@ add_actual-requires c =
     let t = map instance_plain c.args.context.now.model.now.table.now in
     let f = actual_typing (types_in true t c.args.parent) in
     let m = own_items c.args.i c.args.parent in
-    let g = λ (e : Tree). adds_none {Y = Form} e in
+    let g = λ (e : Tree). adds_none {Y = Piece} e in
     let all = map plain c.args.actuals.now in
     let xs = c.args.actuals.now in
     let rest = drop (c.loop-actual.actual-index + 1) xs in
@@ -29,7 +28,7 @@ loop-actual-preserved c =
     let t = map instance_plain c.args.context.now.model.now.table.now in
     let f = actual_typing (types_in true t c.args.parent) in
     let m = own_items c.args.i c.args.parent in
-    let g = λ (e : Tree). adds_none {Y = Form} e in
+    let g = λ (e : Tree). adds_none {Y = Piece} e in
     let all = map plain c.args.actuals.now in
     let xs = c.args.actuals.now in
     let rest = drop (c.loop-actual.actual-index + 1) xs in
@@ -42,7 +41,7 @@ returns-in_err-add_actual-clause-checks c =
     let t = map instance_plain c.args.context.now.model.now.table.now in
     let f = actual_typing (types_in true t c.args.parent) in
     let m = own_items c.args.i c.args.parent in
-    let g = λ (e : Tree). adds_none {Y = Form} e in
+    let g = λ (e : Tree). adds_none {Y = Piece} e in
     let all = map plain c.args.actuals.now in
     let xs = c.args.actuals.now in
     let rest = drop (c.loop-actual.actual-index + 1) xs in
@@ -56,7 +55,7 @@ returns-clause-checks c =
     let t = map instance_plain c.args.context.now.model.now.table.now in
     let f = actual_typing (types_in true t c.args.parent) in
     let m = own_items c.args.i c.args.parent in
-    let g = λ (e : Tree). adds_none {Y = Form} e in
+    let g = λ (e : Tree). adds_none {Y = Piece} e in
     let all = map plain c.args.actuals.now in
     walks_checks t f m g all c.args.built.now c.loop-actual.built
     (subst (λ (xs : List Expr). Walks t f m g all c.args.built.now (map plain xs) c.loop-actual.built) (end_is c.args.actuals.now c.loop-actual.actual-index (length c.args.actuals.now) refl c.loop-actual-test.false) c.loop-actual.invariant)
@@ -66,9 +65,9 @@ returns-clause-adds c =
     let t = map instance_plain c.args.context.now.model.now.table.now in
     let f = actual_typing (types_in true t c.args.parent) in
     let m = own_items c.args.i c.args.parent in
-    let g = λ (e : Tree). adds_none {Y = Form} e in
+    let g = λ (e : Tree). adds_none {Y = Piece} e in
     let all = map plain c.args.actuals.now in
     let old = c.args.built.now in
     let now = c.loop-actual.built in
     let end = walks_end t f m g all old now (subst (λ (xs : List Expr). Walks t f m g all old (map plain xs) now) (end_is c.args.actuals.now c.loop-actual.actual-index (length c.args.actuals.now) refl c.loop-actual-test.false) c.loop-actual.invariant) in
-    subst (λ (fs : List Form). Adds t (flat_map m all) fs old now) (none_all all) end
+    subst (λ (ps : List Piece). Adds t (flat_map m all) ps old now) (none_all all) end
