@@ -6,7 +6,7 @@ use Rattle.std.specs.Str.{bytes_eq}
 use Rattle.smv_text.specs.declared.tree.Parameter.{Parameter}
 use Rattle.smv_text.specs.Tree.{Trees, PlainDomain, boolean, members, between, bits, instance, PlainItem, PlainElement, vars, defines, constants, assigns, init, trans, invar, spec, PlainModule, PlainSource}
 use Rattle.smv_meaning.specs.Instances.{Instance, dotted, module_named, placed, child_in, child_of, with_child, grow_items, grow_elements, grow, main_name, main_instance, grown_from, instances_of}
-use Rattle.smv_meaning.specs.Phases.{Declared, element_declares, declared_in}
+use Rattle.smv_meaning.specs.Phases.{element_declares, declared_in}
 use Rattle.smv_items.specs.laws.Declarations.{name_of, declared_names, DiffersInside}
 use Rattle.smv_accepted.specs.Names.{IsIdentifier}
 use Rattle.smv_items.specs.laws.Differing.{all_weaker, all_unmapped, differ_joined, Within, none_left, kept, passed, within_joined, within_itself, none_within, all_within, differ_within}

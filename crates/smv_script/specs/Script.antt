@@ -18,8 +18,6 @@ use Rattle.smv_flat.specs.FlatForms.{Form, PlainFlat, flat_smv}
 use Rattle.smv_flat_laws.specs.FlatTruth.{forms_invariants}
 use Rattle.smv_flat.specs.FlatTree.{FlatTree}
 use Rattle.smv_width.specs.FlatWidth.{width_of}
-use Rattle.moxi_terms.specs.declared.data.Datum.TheVariants as datum
-use Rattle.moxi_terms.specs.declared.data.TermOp.TheVariants as op
 use Rattle.moxi_terms.specs.declared.term.Variable.{Variable}
 use Rattle.moxi_terms.specs.declared.term.Enumeration.{Enumeration}
 use Rattle.moxi_terms.specs.Tree.{Tree, constant, variable, trees_of}

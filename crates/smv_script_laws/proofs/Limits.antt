@@ -7,7 +7,6 @@ use Rattle.smv_text.specs.declared.token.Token.{Token}
 use Rattle.smv_text.specs.Tree.{PlainSource}
 use Rattle.smv_text.specs.Sources.{SpellsSource}
 use Rattle.smv_meaning.specs.Instances.{instances_of}
-use Rattle.smv_meaning.specs.Checks.{passes}
 use Rattle.smv_meaning.specs.Phases.{most_tokens, IsAccepted}
 use Rattle.smv_items.specs.FlatItems.{PlainFlatItem, symbols_of}
 use Rattle.smv_flat.specs.FlatForms.{flat_smv}

@@ -1,8 +1,6 @@
 -- Some forms spell the script of a flat form.
-use Rattle.std.proofs.Common.{◌≡◌, ℕ, List, sym, ap, ◌∙◌, subst}
+use Rattle.std.proofs.Common.{◌≡◌, ℕ, sym, ap, ◌∙◌, subst}
 use Rattle.std.proofs.Math.Logic.{∥∥₁_map}
-use Rattle.smv_items.specs.declared.items.FlatItem.{FlatItem}
-use Rattle.smv_flat.specs.declared.forms.FlatFormula.{FlatFormula}
 use Rattle.smv_flat.specs.FlatForms.{flat_smv}
 use Rattle.smv_flatten.specs.FlatModel.{FlatModel, IsOfModel, flat_plain}
 use Rattle.moxi_scripts.specs.Invariant.{IsSpelled}

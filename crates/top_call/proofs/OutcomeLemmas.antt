@@ -1,5 +1,5 @@
 -- Words and files define one answer, and what that says of a run.
-use Rattle.std.proofs.Common.{zero, suc, ◌≡◌, ◌≢◌, ◌⊎◌, inl, inr, List, [], ℕ, Option, Some, None, Ok, ◌≤◌, length, refl, sym, ap, ◌∙◌, subst, take, arith}
+use Rattle.std.proofs.Common.{zero, suc, ◌≡◌, ◌≢◌, ◌⊎◌, inl, inr, List, [], ℕ, Option, Some, None, ◌≤◌, length, refl, sym, ap, ◌∙◌, subst, take, arith}
 use Rattle.std.specs.Prelude.{IfSome}
 use Rattle.text_core.specs.Outside.{Files, file_at, grown, HasNewFault}
 use Rattle.text_core.specs.declared.place.Refusal.{Refusal}
