@@ -1,7 +1,8 @@
 // The instances of a model, numbered in preorder.
-ghost use Rattle.std.specs.Prelude.{◌≡◌, ◌<◌, [], map, IfOk};
+ghost use Rattle.std.specs.Prelude.{◌≡◌, ◌<◌, [], length, map, slice_get, IfOk};
 ghost use Rattle.smv_text.specs.View.{plain_module, plain_item, plain_source};
 ghost use Rattle.smv_meaning.specs.Instances.{dotted, child_of, grow, grow_items, instances_of};
+ghost use Rattle.smv_meaning.specs.Names.{path_in};
 ghost use Rattle.smv_instances.specs.View.{instance_plain, instance_or_none};
 
 use crate::modules::ModuleTable;
@@ -81,27 +82,17 @@ fn extend<'a>(
     }
     let i = table.len();
     let elements = &new.module.elements;
-    let copy = new.path.duplicate(alloc)?;
-    let path = copy.bytes();
     table.push(new)?;
     for element in elements {
         match element {
-            Element::Vars(_, items) => extend_items(
-                alloc,
-                modules,
-                deep - 1,
-                i,
-                path,
-                items,
-                table,
-            )?,
+            Element::Vars(_, items) => extend_items(alloc, modules, deep - 1, i, items, table)?,
             _ => {}
         }
     }
     Ok(())
 }
 
-// Adds the instances that declarations in instance i create, each with all instances below it.
+// Adds the instances that declarations in instance i of the table create, each with all instances below it.
 #[cycle(grow)]
 #[tactic(auto, using(crate::proofs::Grow::grow_none, crate::proofs::Grow::grow_begins))]
 fn extend_items<'a>(
@@ -109,14 +100,14 @@ fn extend_items<'a>(
     modules: &ModuleTable<'a>,
     deep: usize,
     i: usize,
-    path: &[u8],
     items: &'a Items,
     table: &mut Vec<Instance<'a>>,
 ) -> Result<(), NoMemory>
-    ensures { IfOk result (λ u. map instance_plain table.new.items ≡ grow_items (grow deep (map plain_module modules.now)) (map plain_module modules.now) i path.now (map plain_item items.now) (map instance_plain table.old.items)) }
+    requires within { i < length table.old.items }
+    ensures { IfOk result (λ u. map instance_plain table.new.items ≡ grow_items (grow deep (map plain_module modules.now)) (map plain_module modules.now) i (path_in (slice_get (map instance_plain table.old.items) i)) (map plain_item items.now) (map instance_plain table.old.items)) }
 {
     for item in items {
-        match child(alloc, modules, i, path, item)? {
+        match child(alloc, modules, i, table[i].path.bytes(), item)? {
             None => {}
             Some(below) => extend(alloc, modules, deep, below, table)?,
         }
