@@ -1,5 +1,5 @@
 -- The instances of a model as a walk over its modules meets them, with no list of all instances.
-use Rattle.std.specs.Prelude.{ℕ, zero, suc, ◌+◌, not, ◌&&◌, ◌||◌, nat_le, List, [], ◌∷◌, ◌++◌, length, Option, Some, None, Result}
+use Rattle.std.specs.Prelude.{ℕ, zero, suc, ◌+◌, ◌≡◌, min, not, ◌&&◌, ◌||◌, nat_le, List, [], ◌∷◌, ◌++◌, length, Option, Some, None, Result}
 use Rattle.text_core.specs.declared.end.End.{End}
 use Rattle.smv_text.specs.Tree.{PlainDomain, instance, PlainItem, PlainModule}
 use Rattle.smv_meaning.specs.Instances.{dotted, module_named}
@@ -12,6 +12,10 @@ pub record Visit : Type 0 where
   pub «module» : PlainModule
   pub path : List ℕ
   pub above : List (List ℕ)
+
+-- the number is the path's length, or one above the limit where the path is longer than the limit
+abbrev pub IsLength : ℕ → List ℕ → Type 0
+IsLength n path = n ≡ min (length path) (suc longest_path)
 
 abbrev pub placed_visits : (List ℕ → PlainModule → List Visit) → List ℕ → Option PlainModule → List Visit
 placed_visits f path None = []

@@ -1,12 +1,12 @@
 // Checks of the declarations of an instance.
-ghost use Rattle.std.specs.Prelude.{◌≡◌, [], length, map, nat_le, Some};
+ghost use Rattle.std.specs.Prelude.{◌≡◌, ◌<◌, ℕ, true, List, [], length, map, nat_le, Some, None};
 ghost use Rattle.smv_text.specs.View.{plain_item, plain_module, plain_source};
 ghost use Rattle.smv_meaning.specs.Instances.{dotted, is_one_of, instances_of};
 ghost use Rattle.smv_meaning.specs.Checks.{first_failing};
-ghost use Rattle.smv_meaning.specs.Phases.{item_checks, declared_in, declares_instance, longest_path, declared_checks, counted_all, declaration_checks};
+ghost use Rattle.smv_meaning.specs.Phases.{item_checks, declared_in, declares_instance, longest_path, most_instances, declared_checks, counted_all, declaration_checks};
 ghost use Rattle.smv_names.specs.Outcome.{Settles, Counts};
 ghost use Rattle.smv_names.specs.View.{declared_plain, names_above};
-ghost use Rattle.smv_names.specs.Visits.{checks_behind_name};
+ghost use Rattle.smv_names.specs.Visits.{checks_behind_name, IsLength};
 ghost use Rattle.smv_names.specs.Declaring.{is_place};
 
 use crate::declared::Declaration;
@@ -73,15 +73,25 @@ fn item_failing(modules: &DeclaredModules, above: &[&[u8]], item: &Item) -> Opti
     }
 }
 
-// Whether the dotted path of the name is within the limit.
-fn is_short(path: &[u8], name: &[u8]) -> bool
-    ensures { result ≡ nat_le (length (dotted path.now name.now)) longest_path }
+/// Returns the length of the dotted path of a name in the instance whose path has this length.
+///
+/// Both lengths are exact up to the limit; above it they are one more than the limit.
+pub(crate) fn length_below(path_length: usize, name: &[u8]) -> usize
+    ensures { (path : List ℕ) → IsLength path_length path → IsLength result (dotted path name.now) }
 {
-    if path.is_empty() {
-        name.len() <= LONGEST_PATH
+    let before = if path_length == 0 {
+        0
     } else {
-        path.len() < LONGEST_PATH && name.len() <= LONGEST_PATH - 1 - path.len()
-    }
+        path_length.saturating_add(1)
+    };
+    before.saturating_add(name.len()).min(LONGEST_PATH + 1)
+}
+
+// Whether the dotted path of the name is within the limit.
+fn is_short(path_length: usize, name: &[u8]) -> bool
+    ensures { (path : List ℕ) → IsLength path_length path → result ≡ nat_le (length (dotted path name.now)) longest_path }
+{
+    length_below(path_length, name) <= LONGEST_PATH
 }
 
 fn is_instance(declaration: &Declaration) -> bool
@@ -103,11 +113,12 @@ fn is_instance(declaration: &Declaration) -> bool
 fn declaration_failing(
     modules: &DeclaredModules,
     above: &[&[u8]],
-    path: &[u8],
+    path_length: usize,
     met: usize,
     declaration: &Declaration,
 ) -> Option<Refusal>
-    ensures { result ≡ first_failing (checks_behind_name (map plain_module modules.now) (names_above above.now) path.now met (declared_plain declaration.now)) }
+    ensures checks { (path : List ℕ) → IsLength path_length path → result ≡ first_failing (checks_behind_name (map plain_module modules.now) (names_above above.now) path met (declared_plain declaration.now)) }
+    ensures few { result ≡ None → declares_instance (declared_plain declaration.now).item ≡ true → met < most_instances }
 {
     if let Some(item) = declaration.item {
         if let Some(why) = item_failing(modules, above, item) {
@@ -115,7 +126,7 @@ fn declaration_failing(
         }
     }
     let fits = !is_instance(declaration) || met < MOST_INSTANCES;
-    if is_short(path, declaration.name) && fits {
+    if is_short(path_length, declaration.name) && fits {
         None
     } else {
         Some(Refusal {
@@ -136,17 +147,17 @@ fn stands_at(place: Option<usize>, k: usize) -> bool
 
 /// Checks the declarations of an instance, and returns the number of instances after them.
 ///
-/// `above` are the names of the enclosing modules, `path` is the path of the instance, and `met` the number of
-/// instances before.
+/// `above` are the names of the enclosing modules, `path_length` is the length of the path of the instance, up to one
+/// above the limit, and `met` is the number of instances before.
 #[tactic(auto, using(smv_meaning::specs::laws::Lists::front_is, smv_meaning::specs::laws::Lists::end_is))]
 pub(crate) fn declared_checked<'a>(
     modules: &DeclaredModules<'a>,
     above: &[&'a [u8]],
-    path: &[u8],
+    path_length: usize,
     met: usize,
     own: &DeclaredModule<'a>,
 ) -> Result<usize, NamesEnd>
-    ensures { Counts result (declared_checks (map plain_module modules.now) (names_above above.now) path.now [] met (declared_in (plain_module own.now))) (counted_all met (declared_in (plain_module own.now))) }
+    ensures { (path : List ℕ) → IsLength path_length path → Counts result (declared_checks (map plain_module modules.now) (names_above above.now) path [] met (declared_in (plain_module own.now))) (counted_all met (declared_in (plain_module own.now))) }
 {
     let list = own.declarations();
     let twice = own.twice();
@@ -158,7 +169,7 @@ pub(crate) fn declared_checked<'a>(
                 place: declaration.place,
             }));
         }
-        if let Some(why) = declaration_failing(modules, above, path, count, declaration) {
+        if let Some(why) = declaration_failing(modules, above, path_length, count, declaration) {
             return Err(NamesEnd::Bad(why));
         }
         if is_instance(declaration) {
@@ -180,7 +191,7 @@ pub fn declarations_checked(alloc: Global, source: &Source) -> Result<(), NamesE
         return Ok(());
     };
     let mut above = Vec::new(alloc);
-    match visited(alloc, &modules, modules.len(), &mut above, &[], own, 1) {
+    match visited(&modules, modules.len(), &mut above, 0, own, 1) {
         Ok(_) => Ok(()),
         Err(end) => Err(end),
     }

@@ -1,8 +1,8 @@
-use Rattle.std.proofs.Common.{◌≡◌, ◌+◌, ◌-◌, ◌*◌, ◌∷◌, drop, take, length, map}
+use Rattle.std.proofs.Common.{◌≡◌, ℕ, List, ◌+◌, ◌-◌, ◌*◌, ◌∷◌, drop, take, length, map}
 use Rattle.smv_text.specs.View.{plain_module}
 use Rattle.smv_meaning.specs.Checks.{first_failing}
 use Rattle.smv_names.specs.View.{declared_plain, names_above}
-use Rattle.smv_names.specs.Visits.{declared_visits, visits, visit_checks, visit_count}
+use Rattle.smv_names.specs.Visits.{declared_visits, visits, visit_checks, visit_count, IsLength}
 use Rattle.smv_names.proofs.visits.+visit.Given as goal
 
 abbrev pub decreases-visited : goal.decreases-visited
@@ -15,6 +15,6 @@ abbrev pub invariant-visited-loop-declaration : goal.invariant-visited-loop-decl
 invariant-visited-loop-declaration l = record {
   above : names_above l.above.items ≡ l.own.name ∷ names_above l.fn.above.items;
   kept : take (length l.fn.above.items) l.above.items ≡ l.fn.above.items;
-  checks : first_failing (visit_checks (map plain_module l.modules) l.count (declared_visits (visits (l.deep - 1) (map plain_module l.modules) (l.own.name ∷ names_above l.fn.above.items)) (map plain_module l.modules) l.path (map declared_plain (drop l.declaration-index l.list)))) ≡ first_failing (visit_checks (map plain_module l.modules) l.fn.met (visits l.deep (map plain_module l.modules) (names_above l.fn.above.items) l.path (plain_module l.own)));
-  count : visit_count l.count (declared_visits (visits (l.deep - 1) (map plain_module l.modules) (l.own.name ∷ names_above l.fn.above.items)) (map plain_module l.modules) l.path (map declared_plain (drop l.declaration-index l.list))) ≡ visit_count l.fn.met (visits l.deep (map plain_module l.modules) (names_above l.fn.above.items) l.path (plain_module l.own));
+  checks : (path : List ℕ) → IsLength l.path_length path → first_failing (visit_checks (map plain_module l.modules) l.count (declared_visits (visits (l.deep - 1) (map plain_module l.modules) (l.own.name ∷ names_above l.fn.above.items)) (map plain_module l.modules) path (map declared_plain (drop l.declaration-index l.list)))) ≡ first_failing (visit_checks (map plain_module l.modules) l.fn.met (visits l.deep (map plain_module l.modules) (names_above l.fn.above.items) path (plain_module l.own)));
+  count : (path : List ℕ) → IsLength l.path_length path → visit_count l.count (declared_visits (visits (l.deep - 1) (map plain_module l.modules) (l.own.name ∷ names_above l.fn.above.items)) (map plain_module l.modules) path (map declared_plain (drop l.declaration-index l.list))) ≡ visit_count l.fn.met (visits l.deep (map plain_module l.modules) (names_above l.fn.above.items) path (plain_module l.own));
 }
