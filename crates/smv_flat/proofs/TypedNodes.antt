@@ -1,7 +1,8 @@
 -- Nodes by the results of their checks and by their shapes.
-use Rattle.std.proofs.Common.{◌≡◌, ℕ, ℤ, ◌≤◌, ◌||◌, Bool, true, false, List, [], ◌∷◌, ◌++◌, drop, length, map, Option, option_map, Result, Ok, Err, Vec, Box, Global, append_assoc, refl, sym, ap, ◌∙◌, subst, rules}
+use Rattle.std.proofs.Common.{◌≡◌, ℕ, ℤ, ◌≤◌, ◌||◌, ◌&&◌, Bool, IsTrue, true, false, List, [], ◌∷◌, ◌++◌, drop, length, map, Option, option_map, Result, Ok, Err, Vec, Box, Global, append_assoc, refl, sym, ap, ◌∙◌, subst, rules}
 use Rattle.std.specs.List.{list_any}
 use Rattle.std.specs.Result.{IsErrAnd}
+use Rattle.std.proofs.Math.Bool.{or_assoc}
 use Rattle.std.proofs.lemmas.List.{drop_all}
 use Rattle.text_core.proofs.ListLaws.{append_none}
 use Rattle.text_core.proofs.Truths.{or_false}
@@ -16,7 +17,7 @@ use Rattle.smv_text.specs.declared.tree.Branch.{Branch}
 use Rattle.smv_text.specs.declared.tree.Expr.{Expr, the_lemmas as expr_lemmas}
 use Rattle.smv_text.specs.declared.tree.Shape.TheVariants as OfExpr
 use Rattle.word_core.specs.Words.{BitVector}
-use Rattle.smv_text.specs.Tree.{Tree, truth, number, literal, range, Links, no_links, link, links_of, branches_of, trees_of}
+use Rattle.smv_text.specs.Tree.{Tree, truth, number, literal, range, Links, no_links, link, branch, links_of, branches_of, trees_of}
 use Rattle.smv_text.specs.View.{plain, plain_link, plain_branch}
 use Rattle.smv_meaning.specs.Expressions.{is_implies, are_implies, is_from_right}
 use Rattle.smv_meaning.specs.Types.{ExprType}
@@ -25,7 +26,7 @@ use Rattle.smv_meaning.specs.laws.Booleans.{both_true, absurd_bool}
 use Rattle.smv_meaning.specs.laws.Plain.{plain_branch-at, plain_link-at}
 use Rattle.smv_intervals.specs.declared.types.Ty.{Ty}
 use Rattle.smv_intervals.specs.View.{seen}
-use Rattle.smv_types.specs.Outcome.{outcome, Ends}
+use Rattle.smv_types.specs.Outcome.{outcome, Ends, is_known, branches_known}
 use Rattle.smv_types.specs.laws.Composing.{ok_parts}
 use Rattle.smv_types.specs.laws.Shapes.{implies_across}
 use Rattle.smv_items.specs.FlatItems.{Leaf}
@@ -35,47 +36,49 @@ use Rattle.smv_flat.specs.declared.expressions.FlatShape.{FlatShape, the_lemmas 
 use Rattle.smv_flat.specs.declared.expressions.FlatShape.TheVariants as OfShape
 use Rattle.smv_flat.specs.declared.nodes.Typed.{Typed}
 use Rattle.smv_flat.specs.declared.nodes.Rest.{Rest}
-use Rattle.smv_flat.specs.FlatTree.{FlatTree, FlatLinks, flat_prefix, flat_chain, flat_choice, flat_cases, flat_select, flat_call, flat_set, flat_link, flat_links_of, flat_branches_of, flat_trees_of, flat_branch, flat_tree_then, flat_tree, flat_links, flat_branches, flat_trees, unless_set, is_set, has_set}
+use Rattle.smv_flat.specs.FlatTree.{FlatTree, FlatLinks, flat_prefix, flat_chain, flat_choice, flat_cases, flat_select, flat_call, flat_set, flat_link, flat_links_of, flat_branches_of, flat_trees_of, flat_branch, flat_tree_then, flat_tree, flat_links, flat_branches, flat_trees, unless_set, is_set, has_set, reaches, links_reach, branches_reach, trees_reach}
 use Rattle.smv_flat.specs.FlatView.{plain_flat, plain_flat_link, plain_flat_branch, plain_shape, mapped, IsNodeOf, IsRetyped, IsChained, EndsAs, links_at}
 
 -- ---- results
 
 -- what a `?` hands on
-pub stopped : (r : Result Typed End) (x : End) (t : Typing) (tree : FlatTree) (set : Bool) → IsErrAnd r (λ e. e ≡ x) → IsBad x (first_failing t.checks) → EndsAs t tree set r
-stopped (Ok v) x t tree set h k = absurd h
-stopped (Err e) x t tree set h k = subst (λ y. IsBad y (first_failing t.checks)) (sym h) k
+pub stopped : (r : Result Typed End) (x : End) (t : Typing) (tree : FlatTree) (set inputs : Bool) → IsErrAnd r (λ e. e ≡ x) → IsBad x (first_failing t.checks) → EndsAs t tree set inputs r
+stopped (Ok v) x t tree set inputs h k = absurd h
+stopped (Err e) x t tree set inputs h k = subst (λ y. IsBad y (first_failing t.checks)) (sym h) k
 
 pub err_mapped : {X : Type 0} (f : X → Option Ty) (r : Result X End) (x : End) → IsErrAnd r (λ e. e ≡ x) → IsErrAnd (mapped f r) (λ e. e ≡ x)
 err_mapped f (Ok v) x h = h
 err_mapped f (Err e) x h = h
 
 -- a node whose checks come to what was found, and whose shape is this tree
-pub node_ends : (t : Typing) (ty : Result (Option Ty) End) (shape : FlatShape) (own set : Bool) (tree : Option ExprType → FlatTree) (whole : FlatTree) (r : Result Typed End)
-    → Ends ty t → IsNodeOf shape ty own r → own ≡ set → ((u : Option ExprType) → plain_shape shape u ≡ tree u) → tree (unless_set set t.type) ≡ whole → EndsAs t whole set r
-node_ends t ty shape own set tree whole (Ok x) h n s g e =
+pub node_ends : (t : Typing) (ty : Result (Option Ty) End) (shape : FlatShape) (own set reached inputs : Bool) (tree : Option ExprType → FlatTree) (whole : FlatTree) (r : Result Typed End)
+    → Ends ty t → IsNodeOf shape ty own reached r → own ≡ set → reached ≡ inputs → ((u : Option ExprType) → plain_shape shape u ≡ tree u) → tree (unless_set set t.type) ≡ whole → EndsAs t whole set inputs r
+node_ends t ty shape own set reached inputs tree whole (Ok x) h n s i g e =
     let told : outcome t ≡ Ok (option_map seen x.ty) = subst (λ y. Ends y t) n.0 h in
     let type : t.type ≡ option_map seen x.ty = (ok_parts (first_failing t.checks) t.type (option_map seen x.ty) told).1 in
-    (told, n.1 ∙ g (unless_set own (option_map seen x.ty)) ∙ ap (λ u. tree (unless_set own u)) (sym type) ∙ ap (λ b. tree (unless_set b t.type)) s ∙ e, n.2 ∙ s)
-node_ends t ty shape own set tree whole (Err x) h n s g e = subst (λ y. Ends y t) n h
+    (told, n.1 ∙ g (unless_set own (option_map seen x.ty)) ∙ ap (λ u. tree (unless_set own u)) (sym type) ∙ ap (λ b. tree (unless_set b t.type)) s ∙ e, n.2 ∙ s, n.3 ∙ i)
+node_ends t ty shape own set reached inputs tree whole (Err x) h n s i g e = subst (λ y. Ends y t) n h
 
 -- a chain whose first operand and rest have this form
-pub chain_ends : (t : Typing) (first : FlatExpr) (rest : Rest) (own set : Bool) (tree : FlatTree) (links : FlatLinks) (whole : FlatTree) (r : Result Typed End)
-    → outcome t ≡ Ok (option_map seen rest.ty) → IsChained first rest own r → own ≡ set → plain_flat first ≡ tree → flat_links_of (map plain_flat_link rest.links.items) ≡ links
-    → flat_chain (unless_set set t.type) tree links ≡ whole → EndsAs t whole set r
-chain_ends t first rest own set tree links whole (Ok x) h n s f l e =
+pub chain_ends : (t : Typing) (first : Typed) (rest : Rest) (own set front behind : Bool) (tree : FlatTree) (links : FlatLinks) (whole : FlatTree) (r : Result Typed End)
+    → outcome t ≡ Ok (option_map seen rest.ty) → IsChained first rest own r → own ≡ set → plain_flat first.expr ≡ tree → flat_links_of (map plain_flat_link rest.links.items) ≡ links → first.reaches_input ≡ front → rest.reaches_input ≡ behind
+    → flat_chain (unless_set set t.type) tree links ≡ whole → EndsAs t whole set (front || behind) r
+chain_ends t first rest own set front behind tree links whole (Ok x) h n s f l i j e =
     let type : t.type ≡ option_map seen rest.ty = (ok_parts (first_failing t.checks) t.type (option_map seen rest.ty) h).1 in (
       h ∙ ap (λ u. Ok (option_map seen u)) (sym n.0),
-      n.1 ∙ ap (λ u. flat_chain (unless_set own u) (plain_flat first) (flat_links_of (map plain_flat_link rest.links.items))) (sym type)
-          ∙ ap (λ b. flat_chain (unless_set b t.type) (plain_flat first) (flat_links_of (map plain_flat_link rest.links.items))) s
+      n.1 ∙ ap (λ u. flat_chain (unless_set own u) (plain_flat first.expr) (flat_links_of (map plain_flat_link rest.links.items))) (sym type)
+          ∙ ap (λ b. flat_chain (unless_set b t.type) (plain_flat first.expr) (flat_links_of (map plain_flat_link rest.links.items))) s
           ∙ ap (λ v. flat_chain (unless_set set t.type) v (flat_links_of (map plain_flat_link rest.links.items))) f ∙ ap (flat_chain (unless_set set t.type) tree) l ∙ e,
       n.2 ∙ s,
+      n.3 ∙ ap (λ b. b || rest.reaches_input) i ∙ ap (λ b. front || b) j,
     )
-chain_ends t first rest own set tree links whole (Err x) h n s f l e = subst (λ y. IsBad y (first_failing t.checks)) (sym n) tt
+chain_ends t first rest own set front behind tree links whole (Err x) h n s f l i j e = subst (λ y. IsBad y (first_failing t.checks)) (sym n) tt
 
 -- `next`: the same node
-pub retyped_ends : (t : Typing) (x : Typed) (ty : Result (Option Ty) End) (tree : FlatTree) (set : Bool) (r : Result Typed End) → Ends ty t → IsRetyped x ty r → plain_flat x.expr ≡ tree → x.is_set ≡ set → EndsAs t tree set r
-retyped_ends t x ty tree set (Ok y) h n e s = (subst (λ z. Ends z t) n.0 h, ap plain_flat n.1 ∙ e, n.2 ∙ s)
-retyped_ends t x ty tree set (Err y) h n e s = subst (λ z. Ends z t) n h
+pub retyped_ends : (t : Typing) (x : Typed) (ty : Result (Option Ty) End) (tree : FlatTree) (set inputs : Bool) (r : Result Typed End)
+    → Ends ty t → IsRetyped x ty r → plain_flat x.expr ≡ tree → x.is_set ≡ set → x.reaches_input ≡ inputs → EndsAs t tree set inputs r
+retyped_ends t x ty tree set inputs (Ok y) h n e s i = (subst (λ z. Ends z t) n.0 h, ap plain_flat n.1 ∙ e, n.2 ∙ s, n.3 ∙ i)
+retyped_ends t x ty tree set inputs (Err y) h n e s i = subst (λ z. Ends z t) n h
 
 -- what a `?` hands on of a type
 pub handed : (r : Result (Option Ty) End) (x : End) (t : Typing) → IsErrAnd r (λ e. e ≡ x) → IsBad x (first_failing t.checks) → Ends r t
@@ -109,6 +112,14 @@ pub grown : {X Y : Type 0} (old new all : List Y) (y : Y) (g : X → Y) (x : X) 
 grown old new all y g x xs rest i n e s h =
     ap (λ l. l ++ map g rest) n ∙ append_assoc old (y ∷ []) (map g rest) ∙ ap (λ z. old ++ z ∷ map g rest) e ∙ ap (λ l. old ++ map g l) (sym s) ∙ h
 
+-- whether one passes a test, with one element more
+pub any_grown : {X : Type 0} (f : X → Bool) (old new v all : Bool) (x : X) (xs rest : List X) (i : ℕ) → new ≡ (old || v) → v ≡ f x → drop i xs ≡ x ∷ rest → (old || list_any f (drop i xs)) ≡ all → (new || list_any f rest) ≡ all
+any_grown f old new v all x xs rest i n e s h =
+    ap (λ c. c || list_any f rest) (n ∙ ap (λ c. old || c) e) ∙ or_assoc old (f x) (list_any f rest) ∙ ap (λ l. old || list_any f l) (sym s) ∙ h
+
+pub any_finished : {X : Type 0} (f : X → Bool) (done all : Bool) (xs : List X) (k : ℕ) → length xs ≤ k → (done || list_any f (drop k xs)) ≡ all → done ≡ all
+any_finished f done all xs k l h = sym (or_false done) ∙ ap (λ ys. done || list_any f ys) (sym (drop_all k xs l)) ∙ h
+
 pub finished : {X Y : Type 0} (done all : List Y) (g : X → Y) (xs : List X) (k : ℕ) → length xs ≤ k → done ++ map g (drop k xs) ≡ all → done ≡ all
 finished done all g xs k l h = sym (append_none done) ∙ ap (λ zs. done ++ map g zs) (sym (drop_all k xs l)) ∙ h
 
@@ -121,6 +132,14 @@ links_are names leaf at under [] = refl
 links_are names leaf at under (l ∷ ls) =
     ap (λ rest. flat_link l.op (flat_tree names leaf (behind l.op at) under (plain l.operand)) rest) (links_are names leaf at under ls)
     ∙ ap (λ (p : Infix × Tree). flat_links names leaf at under (link p.0 p.1 (links_of (map plain_link ls)))) (sym (plain_link-at l))
+
+abbrev pub link_reaches : (Path → Named) → Link → Bool
+link_reaches names l = reaches names (plain l.operand)
+
+pub any_link : (names : Path → Named) (ls : List Link) → list_any (link_reaches names) ls ≡ links_reach names (links_of (map plain_link ls))
+any_link names [] = refl
+any_link names (l ∷ ls) =
+    ap (λ rest. link_reaches names l || rest) (any_link names ls) ∙ ap (λ (p : Infix × Tree). reaches names p.1 || links_reach names (links_of (map plain_link ls))) (sym (plain_link-at l))
 
 -- all at the same position
 abbrev pub same_flat : (Path → Named) → (Path → Leaf) → Position → Bool → Link → Infix × FlatTree
@@ -170,17 +189,24 @@ sets_are [] = refl
 sets_are (b ∷ bs) =
     ap (λ rest. value_set b || rest) (sets_are bs) ∙ ap (λ (p : Tree × Tree). is_set p.1 || has_set (branches_of (map plain_branch bs))) (sym (plain_branch-at b))
 
-or_assoc : (a b c : Bool) → ((a || b) || c) ≡ (a || (b || c))
-or_assoc true b c = refl
-or_assoc false b c = refl
+-- a branch reaches an input by its condition or its value
+abbrev pub branch_reaches : (Path → Named) → Branch → Bool
+branch_reaches names b = reaches names (plain b.when) || reaches names (plain b.value)
 
--- one branch more
-pub set_grown : (old new v all : Bool) (b : Branch) (xs rest : List Branch) (i : ℕ) → new ≡ (old || v) → v ≡ value_set b → drop i xs ≡ b ∷ rest → (old || list_any value_set (drop i xs)) ≡ all → (new || list_any value_set rest) ≡ all
-set_grown old new v all b xs rest i n e s h =
-    ap (λ c. c || list_any value_set rest) (n ∙ ap (λ c. old || c) e) ∙ or_assoc old (value_set b) (list_any value_set rest) ∙ ap (λ l. old || list_any value_set l) (sym s) ∙ h
+pub any_branch : (names : Path → Named) (bs : List Branch) → list_any (branch_reaches names) bs ≡ branches_reach names (branches_of (map plain_branch bs))
+any_branch names [] = refl
+any_branch names (b ∷ bs) =
+    ap (λ rest. branch_reaches names b || rest) (any_branch names bs)
+    ∙ ap (λ (p : Tree × Tree). (reaches names p.0 || reaches names p.1) || branches_reach names (branches_of (map plain_branch bs))) (sym (plain_branch-at b))
 
-pub set_finished : (done all : Bool) (xs : List Branch) (k : ℕ) → length xs ≤ k → (done || list_any value_set (drop k xs)) ≡ all → done ≡ all
-set_finished done all xs k l h = sym (or_false done) ∙ ap (λ bs. done || list_any value_set bs) (sym (drop_all k xs l)) ∙ h
+-- the value of a branch of known ones is known
+pub value_known : (knows : Path → Bool) (xs rest : List Branch) (b : Branch) (i : ℕ) → drop i xs ≡ b ∷ rest → IsTrue (branches_known knows (branches_of (map plain_branch (drop i xs)))) → IsTrue (is_known knows (plain b.value))
+value_known knows xs rest b i s h =
+    let bs = branches_of (map plain_branch rest) in
+    let first : branches_of (map plain_branch (drop i xs)) ≡ branch (plain b.when) (plain b.value) bs =
+    ap (λ ys. branches_of (map plain_branch ys)) s ∙ ap (λ (p : Tree × Tree). branch p.0 p.1 bs) (plain_branch-at b) in
+    let both = both_true (is_known knows (plain b.when)) (is_known knows (plain b.value) && branches_known knows bs) (sym (ap (branches_known knows) first) ∙ h) in
+    (both_true (is_known knows (plain b.value)) (branches_known knows bs) both.1).0
 
 -- ---- arguments and elements
 
@@ -190,6 +216,13 @@ part_flat names leaf at under e = flat_tree names leaf at under (plain e)
 pub parts_are : (names : Path → Named) (leaf : Path → Leaf) (at : Position) (under : Bool) (es : List Expr) → flat_trees_of (map (part_flat names leaf at under) es) ≡ flat_trees names leaf at under (trees_of (map plain es))
 parts_are names leaf at under [] = refl
 parts_are names leaf at under (e ∷ es) = ap (λ rest. flat_tree_then (flat_tree names leaf at under (plain e)) rest) (parts_are names leaf at under es)
+
+abbrev pub part_reaches : (Path → Named) → Expr → Bool
+part_reaches names e = reaches names (plain e)
+
+pub any_part : (names : Path → Named) (es : List Expr) → list_any (part_reaches names) es ≡ trees_reach names (trees_of (map plain es))
+any_part names [] = refl
+any_part names (e ∷ es) = ap (λ rest. reaches names (plain e) || rest) (any_part names es)
 
 -- ---- atoms
 

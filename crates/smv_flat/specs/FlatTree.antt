@@ -79,6 +79,35 @@ abbrev mutual
   has_set no_branches = false
   has_set (branch c e rest) = is_set e || has_set rest
 
+-- whether one of its paths reaches an input, given what the paths are to the types
+abbrev mutual
+  pub reaches : (Path → Named) → Tree → Bool
+  reaches names (truth p b) = false
+  reaches names (number p n) = false
+  reaches names (literal p w) = false
+  reaches names (name p x) = (names x).reaches_input
+  reaches names (prefix p sign n e) = reaches names e
+  reaches names (chain p e ls) = reaches names e || links_reach names ls
+  reaches names (choice p bs e) = branches_reach names bs || reaches names e
+  reaches names (cases p bs) = branches_reach names bs
+  reaches names (select p e high low) = reaches names e
+  reaches names (call p f es) = trees_reach names es
+  reaches names (next p e) = reaches names e
+  reaches names (set p es) = trees_reach names es
+  reaches names (range p low high) = false
+
+  pub links_reach : (Path → Named) → Links → Bool
+  links_reach names no_links = false
+  links_reach names (link op e ls) = reaches names e || links_reach names ls
+
+  pub branches_reach : (Path → Named) → Branches → Bool
+  branches_reach names no_branches = false
+  branches_reach names (branch c e rest) = (reaches names c || reaches names e) || branches_reach names rest
+
+  pub trees_reach : (Path → Named) → Trees → Bool
+  trees_reach names no_trees = false
+  trees_reach names (tree e es) = reaches names e || trees_reach names es
+
 abbrev pub unless_set : Bool → Option ExprType → Option ExprType
 unless_set is_set t = if is_set then None else t
 

@@ -1,5 +1,5 @@
 -- What flat expressions of the code stand for, and what their checks come to.
-use Rattle.std.specs.Prelude.{◌≡◌, ℕ, Bool, true, false, List, [], ◌∷◌, map, Option, None, option_map, Result, Ok, Err, IfOk}
+use Rattle.std.specs.Prelude.{◌≡◌, Bool, ◌||◌, true, false, [], map, Option, None, option_map, Result, Ok, Err}
 use Rattle.text_core.specs.declared.end.End.{End}
 use Rattle.text_core.specs.declared.end.End.TheVariants.{NoMemory}
 use Rattle.text_core.specs.declared.place.Place.{Place}
@@ -19,7 +19,7 @@ use Rattle.smv_flat.specs.declared.expressions.FlatShape.{FlatShape, FlatShape-F
 use Rattle.smv_flat.specs.declared.nodes.Typed.{Typed}
 use Rattle.smv_flat.specs.declared.nodes.Rest.{Rest}
 use Rattle.smv_flat.specs.declared.nodes.Cases.{Cases}
-use Rattle.smv_flat.specs.FlatTree.{FlatTree, flat_truth, flat_number, flat_literal, flat_symbol, flat_item, flat_prefix, flat_chain, flat_choice, flat_cases, flat_select, flat_call, flat_set, flat_range, FlatLinks, no_flat_links, flat_link, flat_links_of, flat_branches_of, flat_trees_of, unless_set, is_set, has_set, flat_tree, flat_branches}
+use Rattle.smv_flat.specs.FlatTree.{FlatTree, flat_truth, flat_number, flat_literal, flat_symbol, flat_item, flat_prefix, flat_chain, flat_choice, flat_cases, flat_select, flat_call, flat_set, flat_range, FlatLinks, no_flat_links, flat_link, flat_links_of, flat_branches_of, flat_trees_of, unless_set, is_set, has_set, reaches, branches_reach, flat_tree, flat_branches}
 
 -- one level each; a shape still wants its type
 abbrev pub flat_shape_step : FlatShape-F (Option ExprType → FlatTree) (FlatTree × FlatTree) FlatTree (Infix × FlatTree) → Option ExprType → FlatTree
@@ -70,31 +70,35 @@ abbrev pub type_of_rest : Rest → Option Ty
 type_of_rest r = r.ty
 
 -- the node of this shape, where its checks have the result; a set stores no type
-abbrev pub IsNodeOf : FlatShape → Result (Option Ty) End → Bool → Result Typed End → Type 0
-IsNodeOf shape ty set (Ok x) = (ty ≡ Ok x.ty) × (plain_flat x.expr ≡ plain_shape shape (unless_set set (option_map seen x.ty))) × (x.is_set ≡ set)
-IsNodeOf shape ty set (Err e) = ty ≡ Err e
+abbrev pub IsNodeOf : FlatShape → Result (Option Ty) End → Bool → Bool → Result Typed End → Type 0
+IsNodeOf shape ty set inputs (Ok x) =
+    (ty ≡ Ok x.ty) × (plain_flat x.expr ≡ plain_shape shape (unless_set set (option_map seen x.ty))) × (x.is_set ≡ set) × (x.reaches_input ≡ inputs)
+IsNodeOf shape ty set inputs (Err e) = ty ≡ Err e
 
 -- the same node with another type
 abbrev pub IsRetyped : Typed → Result (Option Ty) End → Result Typed End → Type 0
-IsRetyped x ty (Ok y) = (ty ≡ Ok y.ty) × (y.expr ≡ x.expr) × (y.is_set ≡ x.is_set)
+IsRetyped x ty (Ok y) = (ty ≡ Ok y.ty) × (y.expr ≡ x.expr) × (y.is_set ≡ x.is_set) × (y.reaches_input ≡ x.reaches_input)
 IsRetyped x ty (Err e) = ty ≡ Err e
 
 -- the node of a chain, given its first operand and the rest of it
-abbrev pub IsChained : FlatExpr → Rest → Bool → Result Typed End → Type 0
+abbrev pub IsChained : Typed → Rest → Bool → Result Typed End → Type 0
 IsChained first rest set (Ok x) =
-    (x.ty ≡ rest.ty) × (plain_flat x.expr ≡ flat_chain (unless_set set (option_map seen rest.ty)) (plain_flat first) (flat_links_of (map plain_flat_link rest.links.items))) × (x.is_set ≡ set)
+    (x.ty ≡ rest.ty)
+    × (plain_flat x.expr ≡ flat_chain (unless_set set (option_map seen rest.ty)) (plain_flat first.expr) (flat_links_of (map plain_flat_link rest.links.items)))
+    × (x.is_set ≡ set) × (x.reaches_input ≡ (first.reaches_input || rest.reaches_input))
 IsChained first rest set (Err e) = e ≡ NoMemory
 
--- the checks pass with this type, and the node has this form; or the first check that fails refuses
-abbrev pub EndsAs : Typing → FlatTree → Bool → Result Typed End → Type 0
-EndsAs t tree set (Ok x) = (outcome t ≡ Ok (option_map seen x.ty)) × (plain_flat x.expr ≡ tree) × (x.is_set ≡ set)
-EndsAs t tree set (Err e) = IsBad e (first_failing t.checks)
+-- the checks pass with this type, and the node has this form, is a set or not, and reaches an input or not; or the first check
+-- that fails refuses
+abbrev pub EndsAs : Typing → FlatTree → Bool → Bool → Result Typed End → Type 0
+EndsAs t tree set inputs (Ok x) = (outcome t ≡ Ok (option_map seen x.ty)) × (plain_flat x.expr ≡ tree) × (x.is_set ≡ set) × (x.reaches_input ≡ inputs)
+EndsAs t tree set inputs (Err e) = IsBad e (first_failing t.checks)
 
 -- ---- expressions, given what names are to the types and what they become, where the expression stands, and whether that is
 -- under `next`
 
 abbrev pub EndsTyped : (Path → Named) → (Path → Leaf) → Position → Bool → Tree → Result Typed End → Type 0
-EndsTyped names leaf at under e r = EndsAs (typing names at e) (flat_tree names leaf at under e) (is_set e) r
+EndsTyped names leaf at under e r = EndsAs (typing names at e) (flat_tree names leaf at under e) (is_set e) (reaches names e) r
 
 -- the branches pass their checks, and have these types and this form
 pub record AreCases (names : Path → Named) (leaf : Path → Leaf) (at : Position) (under : Bool) (bs : Branches) (x : Cases) : Type 0 where
@@ -103,6 +107,7 @@ pub record AreCases (names : Path → Named) (leaf : Path → Leaf) (at : Positi
   pub values : map (option_map seen) x.types.values.items ≡ value_types names at bs []
   pub branches : flat_branches_of (map plain_flat_branch x.branches.items) ≡ flat_branches names leaf at under bs
   pub set : x.has_set ≡ has_set bs
+  pub inputs : x.reaches_input ≡ branches_reach names bs
 
 -- a choice whose branches pass their checks and have this form
 abbrev pub MakesChoice : (Path → Named) → (Path → Leaf) → Position → Bool → Place → Cases → Tree → Result Typed End → Type 0

@@ -1,2 +1,3 @@
 -- Laws that crates above cite.
 pub mod FlatSteps
+pub mod Reaching

@@ -14,41 +14,49 @@ use smv_types::lists::BranchTypes;
 use std::alloc::Global;
 use text_core::NoMemory;
 
-/// A flat expression with its full type, which sets have too, and whether it is a set.
+/// A flat expression with its full type, which sets have too, whether it is a set, and whether one of its paths reaches
+/// an input.
 #[derive(Drop)]
 pub struct Typed {
     pub expr: FlatExpr,
     pub ty: Option<Ty>,
     pub is_set: bool,
+    pub reaches_input: bool,
 }
 
-/// A list of arguments or elements, and their types.
+/// A list of arguments or elements, their types, and whether one of them reaches an input.
 #[derive(Drop)]
 pub struct Parts {
     pub exprs: FlatExprs,
     pub types: Vec<Option<Ty>>,
+    pub reaches_input: bool,
 }
 
-/// The operands after the operators of a chain of `->`, and the types of all its operands.
+/// The operands after the operators of a chain of `->`, the types of all its operands, and whether one of those after
+/// the operators reaches an input.
 #[derive(Drop)]
 pub struct Operands {
     pub links: FlatLinks,
     pub types: Vec<Option<Ty>>,
+    pub reaches_input: bool,
 }
 
-/// The operands after the operators of a chain, and the type of the chain.
+/// The operands after the operators of a chain, the type of the chain, and whether one of these operands reaches an
+/// input.
 #[derive(Drop)]
 pub struct Rest {
     pub links: FlatLinks,
     pub ty: Option<Ty>,
+    pub reaches_input: bool,
 }
 
-/// A list of branches, their types, and whether a value is a set.
+/// A list of branches, their types, whether a value is a set, and whether a condition or a value reaches an input.
 #[derive(Drop)]
 pub struct Cases {
     pub branches: FlatBranches,
     pub types: BranchTypes,
     pub has_set: bool,
+    pub reaches_input: bool,
 }
 
 pub fn boxed(alloc: Global, expr: FlatExpr) -> Result<Box<FlatExpr>, CheckEnd>
@@ -65,8 +73,9 @@ pub fn node(
     shape: FlatShape,
     ty: Result<Option<Ty>, CheckEnd>,
     is_set: bool,
+    reaches_input: bool,
 ) -> Result<Typed, CheckEnd>
-    ensures { IsNodeOf shape ty is_set result }
+    ensures { IsNodeOf shape ty is_set reaches_input result }
 {
     let ty = ty?;
     let own = if is_set { None } else { ty };
@@ -74,6 +83,7 @@ pub fn node(
         expr: FlatExpr { ty: own, shape },
         ty,
         is_set,
+        reaches_input,
     })
 }
 
@@ -86,15 +96,22 @@ pub fn retyped(operand: Typed, ty: Result<Option<Ty>, CheckEnd>) -> Result<Typed
         expr: operand.expr,
         ty,
         is_set: operand.is_set,
+        reaches_input: operand.reaches_input,
     })
 }
 
 /// Returns the node of a chain, given its first operand.
-pub fn chained(alloc: Global, first: FlatExpr, rest: Rest, is_set: bool) -> Result<Typed, CheckEnd>
+pub fn chained(alloc: Global, first: Typed, rest: Rest, is_set: bool) -> Result<Typed, CheckEnd>
     ensures { IsChained first rest is_set result }
 {
-    let inner = boxed(alloc, first)?;
-    node(FlatShape::Chain(inner, rest.links), Ok(rest.ty), is_set)
+    let inner = boxed(alloc, first.expr)?;
+    let reaches_input = either(first.reaches_input, rest.reaches_input);
+    node(
+        FlatShape::Chain(inner, rest.links),
+        Ok(rest.ty),
+        is_set,
+        reaches_input,
+    )
 }
 
 pub fn either(a: bool, b: bool) -> bool
@@ -107,7 +124,9 @@ pub fn either(a: bool, b: bool) -> bool
 pub fn add_part(parts: &mut Parts, part: Typed) -> Result<(), NoMemory>
     ensures exprs { OnOk result (map plain_flat parts.new.exprs.items ≡ map plain_flat parts.old.exprs.items ++ plain_flat part.expr ∷ []) }
     ensures types { OnOk result (parts.new.types.items ≡ parts.old.types.items ++ part.ty ∷ []) }
+    ensures inputs { OnOk result (parts.new.reaches_input ≡ (parts.old.reaches_input || part.reaches_input)) }
 {
+    parts.reaches_input = either(parts.reaches_input, part.reaches_input);
     parts.types.push(part.ty)?;
     Ok(parts.exprs.push(part.expr)?)
 }
@@ -125,8 +144,11 @@ pub fn add_branch(cases: &mut Cases, when: Typed, value: Typed) -> Result<(), No
     ensures conditions { OnOk result (cases.new.types.conditions.items ≡ cases.old.types.conditions.items ++ when.ty ∷ []) }
     ensures values { OnOk result (cases.new.types.values.items ≡ cases.old.types.values.items ++ value.ty ∷ []) }
     ensures set { OnOk result (cases.new.has_set ≡ (cases.old.has_set || value.is_set)) }
+    ensures inputs { OnOk result (cases.new.reaches_input ≡ (cases.old.reaches_input || (when.reaches_input || value.reaches_input))) }
 {
     cases.has_set = either(cases.has_set, value.is_set);
+    let reaches_input = either(when.reaches_input, value.reaches_input);
+    cases.reaches_input = either(cases.reaches_input, reaches_input);
     cases.types.conditions.push(when.ty)?;
     cases.types.values.push(value.ty)?;
     push_branch(&mut cases.branches, when.expr, value.expr)

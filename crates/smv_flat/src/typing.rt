@@ -14,7 +14,7 @@ ghost use Rattle.smv_types.specs.Steps.{passed};
 ghost use Rattle.smv_types.specs.Operands.{EndsChain, implications_typing};
 ghost use Rattle.smv_items.specs.FlatItems.{Leaf as PlainLeaf};
 ghost use Rattle.smv_items.specs.FlatOrigins.{leaf_plain};
-ghost use Rattle.smv_flat.specs.FlatTree.{flat_links_of, flat_branches_of, flat_trees_of, flat_links, flat_branches, flat_trees, has_set, leaf_tree};
+ghost use Rattle.smv_flat.specs.FlatTree.{flat_links_of, flat_branches_of, flat_trees_of, flat_links, flat_branches, flat_trees, has_set, links_reach, branches_reach, trees_reach, leaf_tree};
 ghost use Rattle.smv_flat.specs.FlatView.{plain_flat, plain_flat_link, plain_flat_branch, plain_shape, mapped, type_of_rest, EndsTyped, MakesChoice, links_at};
 
 use crate::expressions::FlatShape;
@@ -61,14 +61,14 @@ fn truth_typed(place: Place, b: bool) -> Result<Typed, CheckEnd>
     ensures { (names : PlainPath → Meaning) (leaf : PlainPath → PlainLeaf) (at : Where) (under : Bool) → EndsTyped names leaf at under (truth place b) result }
 {
     let shape = if b { FlatShape::True } else { FlatShape::False };
-    node(shape, Ok(Some(Ty::Truth)), false)
+    node(shape, Ok(Some(Ty::Truth)), false, false)
 }
 
 fn number_typed(place: Place, n: u64) -> Result<Typed, CheckEnd>
     ensures { (names : PlainPath → Meaning) (leaf : PlainPath → PlainLeaf) (at : Where) (under : Bool) → EndsTyped names leaf at under (number place n) result }
 {
     let ty = answered(number(place, n));
-    node(FlatShape::Number(n), ty, false)
+    node(FlatShape::Number(n), ty, false, false)
 }
 
 fn literal_typed(place: Place, word: &Word) -> Result<Typed, CheckEnd>
@@ -78,6 +78,7 @@ fn literal_typed(place: Place, word: &Word) -> Result<Typed, CheckEnd>
         FlatShape::Literal(*word),
         Ok(Some(Ty::Bits(word.width()))),
         false,
+        false,
     )
 }
 
@@ -85,7 +86,7 @@ fn range_typed(place: Place, at: Permissions, low: i64, high: i64) -> Result<Typ
     ensures { (names : PlainPath → Meaning) (leaf : PlainPath → PlainLeaf) (under : Bool) → EndsTyped names leaf (permissions_seen at) under (range place low high) result }
 {
     let ty = answered(check_range(place, at, low, high));
-    node(FlatShape::Range(low, high), ty, true)
+    node(FlatShape::Range(low, high), ty, true, false)
 }
 
 fn leaf_shape(leaf: Leaf, under: bool) -> FlatShape
@@ -111,7 +112,8 @@ fn name_typed<C: Naming>(
 {
     let found = scope.resolved(alloc, path)?;
     let ty = answered(name(place, at, found.named));
-    node(leaf_shape(found.leaf, under), ty, false)
+    let reaches_input = found.named.reaches_input;
+    node(leaf_shape(found.leaf, under), ty, false, reaches_input)
 }
 
 /// Returns the type and the flat form of an expression at this position.
@@ -143,7 +145,7 @@ pub fn typed<C: Naming>(
             let links = links.as_slice();
             let x = typed(alloc, scope, first, first_standing(links, at), under)?;
             let rest = rest_typed(alloc, scope, place, x.ty, links, at, under)?;
-            chained(alloc, x.expr, rest, are_unions(links))
+            chained(alloc, x, rest, are_unions(links))
         }
         Shape::Choice(branches, last) => {
             let cases = branches_typed(alloc, scope, branches, at, under)?;
@@ -179,7 +181,12 @@ fn prefix_typed<C: Naming>(
     let x = typed(alloc, scope, operand, at.without_sets(), under)?;
     let ty = answered(check_sign(place, sign, count, x.ty));
     let inner = boxed(alloc, x.expr)?;
-    node(FlatShape::Prefix(sign, count, inner), ty, false)
+    node(
+        FlatShape::Prefix(sign, count, inner),
+        ty,
+        false,
+        x.reaches_input,
+    )
 }
 
 #[cycle(typing)]
@@ -199,7 +206,12 @@ fn select_typed<C: Naming>(
     let x = typed(alloc, scope, operand, at.without_sets(), under)?;
     let ty = answered(check_selection(place, x.ty, high, low));
     let inner = boxed(alloc, x.expr)?;
-    node(FlatShape::Select(inner, high, low), ty, false)
+    node(
+        FlatShape::Select(inner, high, low),
+        ty,
+        false,
+        x.reaches_input,
+    )
 }
 
 // `next` disappears: the items below it are marked.
@@ -234,6 +246,7 @@ fn rest_typed<C: Naming>(
     requires { IsTrue (links_known (C.knows scope.now) (links_of (map plain_link links.now))) }
     ensures types { EndsChain (C.names scope.now) (permissions_seen at) place (option_map seen first) (links_of (map plain_link links.now)) (mapped type_of_rest result) }
     ensures links { IfOk result (λ r. flat_links_of (map plain_flat_link r.links.items) ≡ flat_links (C.names scope.now) (C.leaves scope.now) (across (links_of (map plain_link links.now)) (permissions_seen at)) under (links_of (map plain_link links.now))) }
+    ensures inputs { IfOk result (λ r. r.reaches_input ≡ links_reach (C.names scope.now) (links_of (map plain_link links.now))) }
 {
     if is_from_right(links) {
         implications_typed(alloc, scope, place, first, links, at.without_sets(), under)
@@ -263,12 +276,14 @@ fn implications_typed<C: Naming>(
     requires { IsTrue (links_known (C.knows scope.now) (links_of (map plain_link links.now))) }
     ensures types { Ends (mapped type_of_rest result) (implications_typing (C.names scope.now) (permissions_seen at) place (option_map seen first) (links_of (map plain_link links.now))) }
     ensures links { IfOk result (λ r. flat_links_of (map plain_flat_link r.links.items) ≡ links_at (C.names scope.now) (C.leaves scope.now) (permissions_seen at) under (links_of (map plain_link links.now))) }
+    ensures inputs { IfOk result (λ r. r.reaches_input ≡ links_reach (C.names scope.now) (links_of (map plain_link links.now))) }
 {
     let operands = operands_typed(alloc, scope, first, links, at, under)?;
     let ty = check_implication(alloc, place, &operands.types)?;
     Ok(Rest {
         links: operands.links,
         ty,
+        reaches_input: operands.reaches_input,
     })
 }
 
@@ -285,19 +300,23 @@ fn operands_typed<C: Naming>(
     ensures passes { IfOk result (λ v. first_failing (link_checks (C.names scope.now) (permissions_seen at) (links_of (map plain_link links.now))) ≡ None) }
     ensures types { IfOk result (λ v. map (option_map seen) v.types.items ≡ option_map seen first ∷ link_types (C.names scope.now) (permissions_seen at) (links_of (map plain_link links.now))) }
     ensures links { IfOk result (λ v. flat_links_of (map plain_flat_link v.links.items) ≡ links_at (C.names scope.now) (C.leaves scope.now) (permissions_seen at) under (links_of (map plain_link links.now))) }
+    ensures inputs { IfOk result (λ v. v.reaches_input ≡ links_reach (C.names scope.now) (links_of (map plain_link links.now))) }
     ensures refused { IfErr result (λ e. IsBad e (first_failing (link_checks (C.names scope.now) (permissions_seen at) (links_of (map plain_link links.now))))) }
 {
     let mut operands = Vec::with_capacity(alloc, links.len())?;
     let mut types = Vec::with_capacity(alloc, links.len() + 1)?;
     types.push(first)?;
+    let mut reaches_input = false;
     for link in links {
         let x = typed(alloc, scope, &link.operand, at, under)?;
+        reaches_input = either(reaches_input, x.reaches_input);
         types.push(x.ty)?;
         add_link(&mut operands, link.op, x.expr)?;
     }
     Ok(Operands {
         links: operands,
         types,
+        reaches_input,
     })
 }
 
@@ -315,18 +334,22 @@ fn fronts_typed<C: Naming>(
     requires { IsTrue (links_known (C.knows scope.now) (links_of (map plain_link links.now))) }
     ensures types { Ends (mapped type_of_rest result) (linked (C.names scope.now) (permissions_seen at) place (passed (option_map seen first)) (links_of (map plain_link links.now))) }
     ensures links { IfOk result (λ r. flat_links_of (map plain_flat_link r.links.items) ≡ flat_links (C.names scope.now) (C.leaves scope.now) (permissions_seen at) under (links_of (map plain_link links.now))) }
+    ensures inputs { IfOk result (λ r. r.reaches_input ≡ links_reach (C.names scope.now) (links_of (map plain_link links.now))) }
 {
     let mut operands = Vec::with_capacity(alloc, links.len())?;
     let mut whole = first;
+    let mut reaches_input = false;
     for link in links {
         let standing = operand_standing(link.op, at);
         let x = typed(alloc, scope, &link.operand, standing, under)?;
         whole = answered(check_front(link.op, at, place, whole, x.ty, &link.operand))?;
+        reaches_input = either(reaches_input, x.reaches_input);
         add_link(&mut operands, link.op, x.expr)?;
     }
     Ok(Rest {
         links: operands,
         ty: whole,
+        reaches_input,
     })
 }
 
@@ -345,7 +368,12 @@ fn call_typed<C: Naming>(
 {
     let parts = parts_typed(alloc, scope, arguments, at.without_sets(), under)?;
     let ty = check_call(alloc, place, function, &parts.types, arguments);
-    node(FlatShape::Call(function, parts.exprs), ty, false)
+    node(
+        FlatShape::Call(function, parts.exprs),
+        ty,
+        false,
+        parts.reaches_input,
+    )
 }
 
 #[cycle(typing)]
@@ -362,7 +390,7 @@ fn set_typed<C: Naming>(
 {
     let parts = parts_typed(alloc, scope, elements, at, under)?;
     let ty = check_set(alloc, place, at, &parts.types);
-    node(FlatShape::Set(parts.exprs), ty, true)
+    node(FlatShape::Set(parts.exprs), ty, true, parts.reaches_input)
 }
 
 // The arguments of a call, or the elements of a set.
@@ -378,11 +406,13 @@ fn parts_typed<C: Naming>(
     ensures passes { IfOk result (λ v. first_failing (tree_checks (C.names scope.now) (permissions_seen at) (trees_of (map plain parts.now))) ≡ None) }
     ensures types { IfOk result (λ v. map (option_map seen) v.types.items ≡ tree_types (C.names scope.now) (permissions_seen at) (trees_of (map plain parts.now))) }
     ensures exprs { IfOk result (λ v. flat_trees_of (map plain_flat v.exprs.items) ≡ flat_trees (C.names scope.now) (C.leaves scope.now) (permissions_seen at) under (trees_of (map plain parts.now))) }
+    ensures inputs { IfOk result (λ v. v.reaches_input ≡ trees_reach (C.names scope.now) (trees_of (map plain parts.now))) }
     ensures refused { IfErr result (λ e. IsBad e (first_failing (tree_checks (C.names scope.now) (permissions_seen at) (trees_of (map plain parts.now))))) }
 {
     let mut all = Parts {
         exprs: Vec::with_capacity(alloc, parts.len())?,
         types: Vec::with_capacity(alloc, parts.len())?,
+        reaches_input: false,
     };
     for part in parts {
         let x = typed(alloc, scope, part, at, under)?;
@@ -410,7 +440,13 @@ fn choice_typed<C: Naming>(
     let ty = check_branches(alloc, place, &cases.types);
     let inner = boxed(alloc, x.expr)?;
     let is_set = either(cases.has_set, x.is_set);
-    node(FlatShape::Choice(cases.branches, inner), ty, is_set)
+    let reaches_input = either(cases.reaches_input, x.reaches_input);
+    node(
+        FlatShape::Choice(cases.branches, inner),
+        ty,
+        is_set,
+        reaches_input,
+    )
 }
 
 #[cycle(typing)]
@@ -427,7 +463,12 @@ fn case_typed<C: Naming>(
 {
     let cases = branches_typed(alloc, scope, branches, at, under)?;
     let ty = check_branches(alloc, place, &cases.types);
-    node(FlatShape::Case(cases.branches), ty, cases.has_set)
+    node(
+        FlatShape::Case(cases.branches),
+        ty,
+        cases.has_set,
+        cases.reaches_input,
+    )
 }
 
 // The branches of a case or a choice.
@@ -445,6 +486,7 @@ fn branches_typed<C: Naming>(
     ensures values { IfOk result (λ v. map (option_map seen) v.types.values.items ≡ value_types (C.names scope.now) (permissions_seen at) (branches_of (map plain_branch branches.now)) []) }
     ensures branches { IfOk result (λ v. flat_branches_of (map plain_flat_branch v.branches.items) ≡ flat_branches (C.names scope.now) (C.leaves scope.now) (permissions_seen at) under (branches_of (map plain_branch branches.now))) }
     ensures set { IfOk result (λ v. v.has_set ≡ has_set (branches_of (map plain_branch branches.now))) }
+    ensures inputs { IfOk result (λ v. v.reaches_input ≡ branches_reach (C.names scope.now) (branches_of (map plain_branch branches.now))) }
     ensures refused { IfErr result (λ e. IsBad e (first_failing (branch_checks (C.names scope.now) (permissions_seen at) (branches_of (map plain_branch branches.now))))) }
 {
     let mut cases = Cases {
@@ -454,6 +496,7 @@ fn branches_typed<C: Naming>(
             values: Vec::with_capacity(alloc, branches.len())?,
         },
         has_set: false,
+        reaches_input: false,
     };
     for branch in branches {
         let when = typed(alloc, scope, &branch.when, at.without_sets(), under)?;

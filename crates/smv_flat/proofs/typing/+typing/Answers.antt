@@ -2,6 +2,7 @@ use Rattle.std.proofs.Common.{◌≡◌, ◌+◌, ◌∷◌, ◌||◌, ◌∙◌
 use Rattle.std.specs.List.{list_any}
 use Rattle.smv_text.specs.declared.tree.Expr.{the_lemmas as expr_lemmas}
 use Rattle.smv_text.specs.declared.tree.Link.{the_lemmas as link_lemmas}
+use Rattle.smv_text.specs.declared.tree.Branch.{the_lemmas as branch_lemmas}
 use Rattle.smv_text.specs.Tree.{Tree, prefix, select, next, call, set, cases, choice, chain, links_of, branches_of, trees_of}
 use Rattle.smv_text.specs.View.{plain, plain_link, plain_branch}
 use Rattle.smv_meaning.specs.Types.{numbers_of}
@@ -16,9 +17,9 @@ use Rattle.smv_types.specs.laws.Composing.{over, passed_operand}
 use Rattle.smv_types.specs.laws.Stepping.{taken, right_holds, rest_refuses, rest_stops, trees_end, trees_go, trees_more, trees_still, links_end, links_go, links_more, links_still, conditions_end, values_end, branches_go, conditions_more, values_more, branches_still, fronts_end, fronts_stop, fronts_go}
 use Rattle.smv_types.specs.laws.Shapes.{plain_chain, plain_choice, right_goes, left_goes, chain_stops, choice_stops, last_stops, choice_goes}
 use Rattle.smv_flat.specs.declared.expressions.FlatShape.TheVariants as OfShape
-use Rattle.smv_flat.specs.FlatTree.{FlatLinks, flat_prefix, flat_select, flat_call, flat_set, flat_cases, flat_choice, flat_links_of, flat_branches_of, flat_trees_of, flat_tree, flat_links, flat_branches, flat_trees, is_set, has_set}
+use Rattle.smv_flat.specs.FlatTree.{FlatLinks, flat_prefix, flat_select, flat_call, flat_set, flat_cases, flat_choice, flat_links_of, flat_branches_of, flat_trees_of, flat_tree, flat_links, flat_branches, flat_trees, is_set, has_set, reaches, links_reach, branches_reach, trees_reach}
 use Rattle.smv_flat.specs.FlatView.{plain_flat, plain_flat_link, plain_flat_branch, mapped, type_of_rest, EndsTyped}
-use Rattle.smv_flat.proofs.TypedNodes.{stopped, err_mapped, node_ends, chain_ends, retyped_ends, handed, grown, finished, set_grown, set_finished, shape_prefix, shape_select, shape_call, shape_set, shape_case, shape_choice, link_flat, links_are, same_flat, same_are, right_chain, branch_flat, branches_are, sets_are, value_set, part_flat, parts_are, plain_truth_is, plain_untruth_is, plain_number_is, plain_literal_is, plain_range_is}
+use Rattle.smv_flat.proofs.TypedNodes.{stopped, err_mapped, node_ends, chain_ends, retyped_ends, handed, grown, finished, any_grown, any_finished, shape_prefix, shape_select, shape_call, shape_set, shape_case, shape_choice, link_flat, links_are, link_reaches, any_link, same_flat, same_are, right_chain, branch_flat, branches_are, sets_are, value_set, branch_reaches, any_branch, part_flat, parts_are, part_reaches, any_part, value_known, plain_truth_is, plain_untruth_is, plain_number_is, plain_literal_is, plain_range_is}
 use Rattle.smv_flat.proofs.typing.+typing.Goals as goal
 
 -- ---- atoms
@@ -69,7 +70,7 @@ typed-returns-in_err-x-in-Chain g t c =
     let first = plain c.in-Chain.first.value in
     let ls = links_of (map plain_link c.in-Chain.links.items) in
     subst (λ (tr : Tree). EndsTyped names leaf at c.args.under tr c.from_residual.result) (sym e) (
-    stopped c.from_residual.result c.in_err-x-in-Chain.field-0.0 (typing names at (chain c.args.e.now.place first ls)) _ _ c.from_residual.ensures.1
+    stopped c.from_residual.result c.in_err-x-in-Chain.field-0.0 (typing names at (chain c.args.e.now.place first ls)) _ _ _ c.from_residual.ensures.1
     (chain_stops names at c.args.e.now.place first ls (Err c.in_err-x-in-Chain.field-0.0) c.in_err-x-in-Chain.field-0.0 refl
     (rw (c.first_standing.ensures, c.deref-in-Chain.ensures, c.as_slice-links.ensures.value) at c.in_err-x-in-Chain.ensures))
     )
@@ -93,11 +94,12 @@ typed-returns-in_ok-rest-in-Chain g t c =
     let told = rw (c.first_standing.ensures, c.deref-in-Chain.ensures, c.as_slice-links.ensures.value) at c.in_ok-x-in-Chain.ensures in
     let types = rw c.as_slice-links.ensures.value at c.in_ok-rest-in-Chain.ensures.types in
     let links = rw c.as_slice-links.ensures.value at c.in_ok-rest-in-Chain.ensures.links in
+    let inputs = rw c.as_slice-links.ensures.value at c.in_ok-rest-in-Chain.ensures.inputs in
     let unions = rw c.as_slice-links.ensures.value at c.are_unions.ensures in
     subst (λ (tr : Tree). EndsTyped names leaf at c.args.under tr c.chained.result) (sym e) (
-    chain_ends (typing names at (chain c.args.e.now.place first ls)) c.in_ok-x-in-Chain.x.expr c.in_ok-rest-in-Chain.rest c.are_unions.result (are_unions ls)
+    chain_ends (typing names at (chain c.args.e.now.place first ls)) c.in_ok-x-in-Chain.x c.in_ok-rest-in-Chain.rest c.are_unions.result (are_unions ls) (reaches names first) (links_reach names ls)
     (flat_tree names leaf (across ls at) c.args.under first) (flat_links names leaf (across ls at) c.args.under ls) _ c.chained.result
-    (types first told.0) c.chained.ensures unions told.1 links refl
+    (types first told.0) c.chained.ensures unions told.1 links told.3 inputs refl
     )
 
 pub typed-returns-in_err-cases-in-Choice : goal.typed-returns-in_err-cases-in-Choice
@@ -109,7 +111,7 @@ typed-returns-in_err-cases-in-Choice g t c =
     let last = plain c.in-Choice.last.value in
     let bs = branches_of (map plain_branch c.in-Choice.branches.items) in
     subst (λ (tr : Tree). EndsTyped names leaf at c.args.under tr c.from_residual-in_err-cases-in-Choice.result) (sym e) (
-    stopped c.from_residual-in_err-cases-in-Choice.result c.in_err-cases-in-Choice.field-0.0 (typing names at (choice c.args.e.now.place bs last)) _ _ c.from_residual-in_err-cases-in-Choice.ensures.1
+    stopped c.from_residual-in_err-cases-in-Choice.result c.in_err-cases-in-Choice.field-0.0 (typing names at (choice c.args.e.now.place bs last)) _ _ _ c.from_residual-in_err-cases-in-Choice.ensures.1
     (choice_stops names at c.args.e.now.place bs last (Err c.in_err-cases-in-Choice.field-0.0) c.in_err-cases-in-Choice.field-0.0 refl
     (rw c.deref-in-Choice.ensures.value at c.in_err-cases-in-Choice.ensures.refused))
     )
@@ -121,7 +123,7 @@ prefix_typed-returns-in_err-x g t c =
     let names = g.C.Naming.names c.args.scope.now in
     let e = plain c.args.operand.now in
     let a = typing names (single (permissions_seen c.args.at)) e in
-    stopped c.from_residual.result c.in_err-x.field-0.0 (typing names (permissions_seen c.args.at) (prefix c.args.place c.args.sign c.args.count e)) _ false c.from_residual.ensures.1
+    stopped c.from_residual.result c.in_err-x.field-0.0 (typing names (permissions_seen c.args.at) (prefix c.args.place c.args.sign c.args.count e)) _ false _ c.from_residual.ensures.1
     (ends c.in_err-x.field-0.0 a.checks (prefix_step c.args.place c.args.sign c.args.count a.type).checks (rw c.without_sets.ensures at c.in_err-x.ensures))
 
 pub prefix_typed-returns : goal.prefix_typed-returns
@@ -132,10 +134,10 @@ prefix_typed-returns g t c =
     let e = plain c.args.operand.now in
     let x = option_map seen c.in_ok-x.x.ty in
     let told = rw c.without_sets.ensures at c.in_ok-x.ensures in
-    node_ends (typing names at (prefix c.args.place c.args.sign c.args.count e)) c.answered-ty.result (OfShape.Prefix c.args.sign c.args.count c.in_ok-inner.inner) false false
+    node_ends (typing names at (prefix c.args.place c.args.sign c.args.count e)) c.answered-ty.result (OfShape.Prefix c.args.sign c.args.count c.in_ok-inner.inner) false false c.in_ok-x.x.reaches_input (reaches names e)
     (λ u. flat_prefix u c.args.sign c.args.count (flat_tree names leaf (single at) c.args.under e)) _ c.node.result
     (passed_operand c.answered-ty.result (typing names (single at) e) x (prefix_step c.args.place c.args.sign c.args.count) told.0 (c.answered-ty.ensures.typing (prefix_step c.args.place c.args.sign c.args.count x) c.check_sign.ensures))
-    c.node.ensures refl
+    c.node.ensures refl told.3
     (λ u. shape_prefix c.args.sign c.args.count c.in_ok-inner.inner u ∙ ap (λ v. flat_prefix u c.args.sign c.args.count (plain_flat v)) c.in_ok-inner.ensures.ok ∙ ap (flat_prefix u c.args.sign c.args.count) told.1)
     refl
 
@@ -144,7 +146,7 @@ select_typed-returns-in_err-x g t c =
     let names = g.C.Naming.names c.args.scope.now in
     let e = plain c.args.operand.now in
     let a = typing names (single (permissions_seen c.args.at)) e in
-    stopped c.from_residual.result c.in_err-x.field-0.0 (typing names (permissions_seen c.args.at) (select c.args.place e c.args.high c.args.low)) _ false c.from_residual.ensures.1
+    stopped c.from_residual.result c.in_err-x.field-0.0 (typing names (permissions_seen c.args.at) (select c.args.place e c.args.high c.args.low)) _ false _ c.from_residual.ensures.1
     (ends c.in_err-x.field-0.0 a.checks (select_step c.args.place c.args.high c.args.low a.type).checks (rw c.without_sets.ensures at c.in_err-x.ensures))
 
 pub select_typed-returns : goal.select_typed-returns
@@ -155,10 +157,10 @@ select_typed-returns g t c =
     let e = plain c.args.operand.now in
     let x = option_map seen c.in_ok-x.x.ty in
     let told = rw c.without_sets.ensures at c.in_ok-x.ensures in
-    node_ends (typing names at (select c.args.place e c.args.high c.args.low)) c.answered-ty.result (OfShape.Select c.in_ok-inner.inner c.args.high c.args.low) false false
+    node_ends (typing names at (select c.args.place e c.args.high c.args.low)) c.answered-ty.result (OfShape.Select c.in_ok-inner.inner c.args.high c.args.low) false false c.in_ok-x.x.reaches_input (reaches names e)
     (λ u. flat_select u (flat_tree names leaf (single at) c.args.under e) c.args.high c.args.low) _ c.node.result
     (passed_operand c.answered-ty.result (typing names (single at) e) x (select_step c.args.place c.args.high c.args.low) told.0 (c.answered-ty.ensures.typing (select_step c.args.place c.args.high c.args.low x) c.check_selection.ensures))
-    c.node.ensures refl
+    c.node.ensures refl told.3
     (λ u. shape_select c.in_ok-inner.inner c.args.high c.args.low u ∙ ap (λ v. flat_select u (plain_flat v) c.args.high c.args.low) c.in_ok-inner.ensures.ok ∙ ap (λ v. flat_select u v c.args.high c.args.low) told.1)
     refl
 
@@ -167,7 +169,7 @@ next_typed-returns-in_err-x g t c =
     let names = g.C.Naming.names c.args.scope.now in
     let e = plain c.args.operand.now in
     let a = typing names under_next e in
-    stopped c.from_residual.result c.in_err-x.field-0.0 (typing names (permissions_seen c.args.at) (next c.args.place e)) _ (is_set e) c.from_residual.ensures.1
+    stopped c.from_residual.result c.in_err-x.field-0.0 (typing names (permissions_seen c.args.at) (next c.args.place e)) _ (is_set e) _ c.from_residual.ensures.1
     (ends c.in_err-x.field-0.0 a.checks (next_step c.args.place (permissions_seen c.args.at) a.type).checks (rw c.under_next.ensures at c.in_err-x.ensures))
 
 pub next_typed-returns : goal.next_typed-returns
@@ -178,9 +180,9 @@ next_typed-returns g t c =
     let e = plain c.args.operand.now in
     let x = option_map seen c.in_ok-x.x.ty in
     let told = rw c.under_next.ensures at c.in_ok-x.ensures in
-    retyped_ends (typing names at (next c.args.place e)) c.in_ok-x.x c.answered-ty.result (flat_tree names leaf under_next true e) (is_set e) c.retyped.result
+    retyped_ends (typing names at (next c.args.place e)) c.in_ok-x.x c.answered-ty.result (flat_tree names leaf under_next true e) (is_set e) (reaches names e) c.retyped.result
     (passed_operand c.answered-ty.result (typing names under_next e) x (next_step c.args.place at) told.0 (c.answered-ty.ensures.typing (next_step c.args.place at x) c.check_next.ensures))
-    c.retyped.ensures told.1 told.2
+    c.retyped.ensures told.1 told.2 told.3
 
 -- ---- several operands
 
@@ -189,7 +191,7 @@ call_typed-returns-in_err-parts g t c =
     let names = g.C.Naming.names c.args.scope.now in
     let at = single (permissions_seen c.args.at) in
     let es = trees_of (map plain c.args.arguments.now) in
-    stopped c.from_residual.result c.in_err-parts.field-0.0 (typing names (permissions_seen c.args.at) (call c.args.place c.args.function es)) _ false c.from_residual.ensures.1
+    stopped c.from_residual.result c.in_err-parts.field-0.0 (typing names (permissions_seen c.args.at) (call c.args.place c.args.function es)) _ false _ c.from_residual.ensures.1
     (ends c.in_err-parts.field-0.0 (tree_checks names at es) (call_step c.args.place c.args.function (all_types (tree_types names at es)) (numbers_of es)).checks (rw c.without_sets.ensures at c.in_err-parts.ensures.refused))
 
 pub call_typed-returns : goal.call_typed-returns
@@ -198,7 +200,7 @@ call_typed-returns g t c =
     let leaf = g.C.Naming.leaves c.args.scope.now in
     let at = single (permissions_seen c.args.at) in
     let es = trees_of (map plain c.args.arguments.now) in
-    node_ends (typing names (permissions_seen c.args.at) (call c.args.place c.args.function es)) c.check_call-ty.result (OfShape.Call c.args.function c.in_ok-parts.parts.exprs) false false
+    node_ends (typing names (permissions_seen c.args.at) (call c.args.place c.args.function es)) c.check_call-ty.result (OfShape.Call c.args.function c.in_ok-parts.parts.exprs) false false c.in_ok-parts.parts.reaches_input (trees_reach names es)
     (λ u. flat_call u c.args.function (flat_trees names leaf at c.args.under es)) _ c.node.result
     (over c.check_call-ty.result (tree_checks names at es)
     (call_step c.args.place c.args.function (all_types (map (option_map seen) c.deref.result.now)) (numbers_of es))
@@ -206,7 +208,7 @@ call_typed-returns g t c =
     (rw c.without_sets.ensures at c.in_ok-parts.ensures.passes)
     (ap (λ ts. call_step c.args.place c.args.function (all_types ts) (numbers_of es)) (ap (map (option_map seen)) c.deref.ensures.value ∙ (rw c.without_sets.ensures at c.in_ok-parts.ensures.types)))
     c.check_call-ty.ensures)
-    c.node.ensures refl
+    c.node.ensures refl c.in_ok-parts.ensures.inputs
     (λ u. shape_call c.args.function c.in_ok-parts.parts.exprs u ∙ ap (flat_call u c.args.function) (rw c.without_sets.ensures at c.in_ok-parts.ensures.exprs))
     refl
 
@@ -215,7 +217,7 @@ set_typed-returns-in_err-parts g t c =
     let names = g.C.Naming.names c.args.scope.now in
     let at = permissions_seen c.args.at in
     let es = trees_of (map plain c.args.elements.now) in
-    stopped c.from_residual.result c.in_err-parts.field-0.0 (typing names at (set c.args.place es)) _ true c.from_residual.ensures.1
+    stopped c.from_residual.result c.in_err-parts.field-0.0 (typing names at (set c.args.place es)) _ true _ c.from_residual.ensures.1
     (ends c.in_err-parts.field-0.0 (tree_checks names at es) (set_step c.args.place at (all_types (tree_types names at es))).checks c.in_err-parts.ensures.refused)
 
 pub set_typed-returns : goal.set_typed-returns
@@ -224,7 +226,7 @@ set_typed-returns g t c =
     let leaf = g.C.Naming.leaves c.args.scope.now in
     let at = permissions_seen c.args.at in
     let es = trees_of (map plain c.args.elements.now) in
-    node_ends (typing names at (set c.args.place es)) c.check_set-ty.result (OfShape.Set c.in_ok-parts.parts.exprs) true true
+    node_ends (typing names at (set c.args.place es)) c.check_set-ty.result (OfShape.Set c.in_ok-parts.parts.exprs) true true c.in_ok-parts.parts.reaches_input (trees_reach names es)
     (λ u. flat_set u (flat_trees names leaf at c.args.under es)) _ c.node.result
     (over c.check_set-ty.result (tree_checks names at es)
     (set_step c.args.place at (all_types (map (option_map seen) c.deref.result.now)))
@@ -232,7 +234,7 @@ set_typed-returns g t c =
     c.in_ok-parts.ensures.passes
     (ap (λ ts. set_step c.args.place at (all_types ts)) (ap (map (option_map seen)) c.deref.ensures.value ∙ c.in_ok-parts.ensures.types))
     c.check_set-ty.ensures)
-    c.node.ensures refl
+    c.node.ensures refl c.in_ok-parts.ensures.inputs
     (λ u. shape_set c.in_ok-parts.parts.exprs u ∙ ap (flat_set u) c.in_ok-parts.ensures.exprs)
     refl
 
@@ -241,7 +243,7 @@ case_typed-returns-in_err-cases g t c =
     let names = g.C.Naming.names c.args.scope.now in
     let at = permissions_seen c.args.at in
     let bs = branches_of (map plain_branch c.args.branches.now) in
-    stopped c.from_residual.result c.in_err-cases.field-0.0 (typing names at (cases c.args.place bs)) _ (has_set bs) c.from_residual.ensures.1
+    stopped c.from_residual.result c.in_err-cases.field-0.0 (typing names at (cases c.args.place bs)) _ (has_set bs) _ c.from_residual.ensures.1
     (ends c.in_err-cases.field-0.0 (branch_checks names at bs) (branches_step c.args.place (all_types (condition_types names (single at) bs)) (all_types (value_types names at bs []))).checks c.in_err-cases.ensures.refused)
 
 pub case_typed-returns : goal.case_typed-returns
@@ -252,7 +254,7 @@ case_typed-returns g t c =
     let bs = branches_of (map plain_branch c.args.branches.now) in
     let conditions = map (option_map seen) c.in_ok-cases.cases.types.conditions.items in
     let values = map (option_map seen) c.in_ok-cases.cases.types.values.items in
-    node_ends (typing names at (cases c.args.place bs)) c.check_branches-ty.result (OfShape.Case c.in_ok-cases.cases.branches) c.in_ok-cases.cases.has_set (has_set bs)
+    node_ends (typing names at (cases c.args.place bs)) c.check_branches-ty.result (OfShape.Case c.in_ok-cases.cases.branches) c.in_ok-cases.cases.has_set (has_set bs) c.in_ok-cases.cases.reaches_input (branches_reach names bs)
     (λ u. flat_cases u (flat_branches names leaf at c.args.under bs)) _ c.node.result
     (over c.check_branches-ty.result (branch_checks names at bs)
     (branches_step c.args.place (all_types conditions) (all_types values))
@@ -261,7 +263,7 @@ case_typed-returns g t c =
     (ap (λ ts. branches_step c.args.place (all_types ts) (all_types values)) c.in_ok-cases.ensures.conditions
     ∙ ap (λ ts. branches_step c.args.place (all_types (condition_types names (single at) bs)) (all_types ts)) c.in_ok-cases.ensures.values)
     c.check_branches-ty.ensures)
-    c.node.ensures c.in_ok-cases.ensures.set
+    c.node.ensures c.in_ok-cases.ensures.set c.in_ok-cases.ensures.inputs
     (λ u. shape_case c.in_ok-cases.cases.branches u ∙ ap (flat_cases u) c.in_ok-cases.ensures.branches)
     refl
 
@@ -270,7 +272,7 @@ choice_typed-returns-in_err-x g t c bs k =
     let names = g.C.Naming.names c.args.scope.now in
     let at = permissions_seen c.args.at in
     let e = plain c.args.last.now in
-    stopped c.from_residual.result c.in_err-x.field-0.0 (typing names at (choice c.args.place bs e)) _ _ c.from_residual.ensures.1
+    stopped c.from_residual.result c.in_err-x.field-0.0 (typing names at (choice c.args.place bs e)) _ _ _ c.from_residual.ensures.1
     (last_stops names at c.args.place bs e (Err c.in_err-x.field-0.0) c.in_err-x.field-0.0 refl k.passes c.in_err-x.ensures)
 
 pub choice_typed-returns : goal.choice_typed-returns
@@ -281,10 +283,11 @@ choice_typed-returns g t c bs k =
     let e = plain c.args.last.now in
     let conditions = c.args.cases.types.conditions.items in
     let whole : Ends c.check_branches-ty.result (branches_step c.args.place (all_types (map (option_map seen) conditions)) (all_types (map (option_map seen) c.push.new.self.items))) = c.check_branches-ty.ensures in
-    node_ends (typing names at (choice c.args.place bs e)) c.check_branches-ty.result (OfShape.Choice c.args.cases.branches c.in_ok-inner.inner) c.either-is_set.result _
+    node_ends (typing names at (choice c.args.place bs e)) c.check_branches-ty.result (OfShape.Choice c.args.cases.branches c.in_ok-inner.inner) c.either-is_set.result _ c.either-reaches_input.result _
     (λ u. flat_choice u (flat_branches names leaf at c.args.under bs) (flat_tree names leaf at c.args.under e)) _ c.node.result
     (choice_goes names at c.args.place bs e c.check_branches-ty.result conditions c.args.cases.types.values.items c.in_ok-x.x.ty k.passes k.conditions k.values c.in_ok-x.ensures.0 (rw c.in_ok-push.ensures.items at whole))
     c.node.ensures (c.either-is_set.ensures ∙ ap (λ b. b || c.in_ok-x.x.is_set) k.set ∙ ap (λ b. has_set bs || b) c.in_ok-x.ensures.2)
+    (c.either-reaches_input.ensures ∙ ap (λ b. b || c.in_ok-x.x.reaches_input) k.inputs ∙ ap (λ b. branches_reach names bs || b) c.in_ok-x.ensures.3)
     (λ u. shape_choice c.args.cases.branches c.in_ok-inner.inner u ∙ ap (λ (v : _). flat_choice u (flat_branches_of (map plain_flat_branch c.args.cases.branches.items)) (plain_flat v)) c.in_ok-inner.ensures.ok
     ∙ ap (λ v. flat_choice u v (plain_flat c.in_ok-x.x.expr)) k.branches ∙ ap (flat_choice u (flat_branches names leaf at c.args.under bs)) c.in_ok-x.ensures.1)
     refl
@@ -372,6 +375,7 @@ operands_typed-loop-link-preserved g t c =
           );
       links = grown (map plain_flat_link c.loop-link.operands.items) (map plain_flat_link c.add_link.new.links.items) (map (same_flat names leaf at c.args.under) xs) (c.link-item.result.op, plain_flat c.in_ok-x.x.expr)
           (same_flat names leaf at c.args.under) c.link-item.result xs rest c.loop-link.link-index c.in_ok-add_link.ensures (ap (λ z. (c.link-item.result.op, z)) c.in_ok-x.ensures.1) s c.loop-link.invariant.links;
+      inputs = any_grown (link_reaches names) c.loop-link.reaches_input c.either-reaches_input.result c.in_ok-x.x.reaches_input (list_any (link_reaches names) xs) c.link-item.result xs rest c.loop-link.link-index c.either-reaches_input.ensures c.in_ok-x.ensures.3 s c.loop-link.invariant.inputs;
     }
 
 pub operands_typed-returns-clause-links : goal.operands_typed-returns-clause-links
@@ -425,6 +429,7 @@ fronts_typed-loop-link-preserved g t c =
           (c.in_ok-whole.ensures.typing (front_step c.link-item.result.op at c.args.place w y (plain c.link-item.result.operand)) c.check_front.ensures);
       links = grown (map plain_flat_link c.loop-link.operands.items) (map plain_flat_link c.add_link.new.links.items) (map (link_flat names leaf at c.args.under) xs) (c.link-item.result.op, plain_flat c.in_ok-x.x.expr)
           (link_flat names leaf at c.args.under) c.link-item.result xs rest c.loop-link.link-index c.in_ok-add_link.ensures (ap (λ z. (c.link-item.result.op, z)) told.1) s c.loop-link.invariant.links;
+      inputs = any_grown (link_reaches names) c.loop-link.reaches_input c.either-reaches_input.result c.in_ok-x.x.reaches_input (list_any (link_reaches names) xs) c.link-item.result xs rest c.loop-link.link-index c.either-reaches_input.ensures told.3 s c.loop-link.invariant.inputs;
     }
 
 pub fronts_typed-returns-clause-links : goal.fronts_typed-returns-clause-links
@@ -435,6 +440,18 @@ fronts_typed-returns-clause-links g t c =
     let xs = c.args.links.now in
     ap flat_links_of (finished (map plain_flat_link c.loop-link.operands.items) (map (link_flat names leaf at c.args.under) xs) (link_flat names leaf at c.args.under) xs c.loop-link.link-index c.loop-link-test.false c.loop-link.invariant.links)
     ∙ links_are names leaf at c.args.under xs
+
+pub operands_typed-returns-clause-inputs : goal.operands_typed-returns-clause-inputs
+operands_typed-returns-clause-inputs g t c =
+    let names = g.C.Naming.names c.args.scope.now in
+    let xs = c.args.links.now in
+    any_finished (link_reaches names) c.loop-link.reaches_input (list_any (link_reaches names) xs) xs c.loop-link.link-index c.loop-link-test.false c.loop-link.invariant.inputs ∙ any_link names xs
+
+pub fronts_typed-returns-clause-inputs : goal.fronts_typed-returns-clause-inputs
+fronts_typed-returns-clause-inputs g t c =
+    let names = g.C.Naming.names c.args.scope.now in
+    let xs = c.args.links.now in
+    any_finished (link_reaches names) c.loop-link.reaches_input (list_any (link_reaches names) xs) xs c.loop-link.link-index c.loop-link-test.false c.loop-link.invariant.inputs ∙ any_link names xs
 
 pub parts_typed-returns-in_err-x-clause-refused : goal.parts_typed-returns-in_err-x-clause-refused
 parts_typed-returns-in_err-x-clause-refused g t c =
@@ -463,6 +480,7 @@ parts_typed-loop-part-preserved g t c =
           );
       exprs = grown (map plain_flat c.loop-part.all.exprs.items) (map plain_flat c.add_part.new.parts.exprs.items) (map (part_flat names leaf at c.args.under) xs) (plain_flat c.in_ok-x.x.expr)
           (part_flat names leaf at c.args.under) c.part-item.result xs rest c.loop-part.part-index c.in_ok-add_part.ensures.exprs c.in_ok-x.ensures.1 s c.loop-part.invariant.exprs;
+      inputs = any_grown (part_reaches names) c.loop-part.all.reaches_input c.add_part.new.parts.reaches_input c.in_ok-x.x.reaches_input (list_any (part_reaches names) xs) c.part-item.result xs rest c.loop-part.part-index c.in_ok-add_part.ensures.inputs c.in_ok-x.ensures.3 s c.loop-part.invariant.inputs;
     }
 
 pub parts_typed-returns-clause-exprs : goal.parts_typed-returns-clause-exprs
@@ -473,6 +491,12 @@ parts_typed-returns-clause-exprs g t c =
     let xs = c.args.parts.now in
     ap flat_trees_of (finished (map plain_flat c.loop-part.all.exprs.items) (map (part_flat names leaf at c.args.under) xs) (part_flat names leaf at c.args.under) xs c.loop-part.part-index c.loop-part-test.false c.loop-part.invariant.exprs)
     ∙ parts_are names leaf at c.args.under xs
+
+pub parts_typed-returns-clause-inputs : goal.parts_typed-returns-clause-inputs
+parts_typed-returns-clause-inputs g t c =
+    let names = g.C.Naming.names c.args.scope.now in
+    let xs = c.args.parts.now in
+    any_finished (part_reaches names) c.loop-part.all.reaches_input (list_any (part_reaches names) xs) xs c.loop-part.part-index c.loop-part-test.false c.loop-part.invariant.inputs ∙ any_part names xs
 
 pub branches_typed-returns-in_err-when-clause-refused : goal.branches_typed-returns-in_err-when-clause-refused
 branches_typed-returns-in_err-when-clause-refused g t c =
@@ -492,6 +516,15 @@ branches_typed-returns-in_err-value-clause-refused g t c =
     rest_refuses c.from_residual-in_err-value.result c.in_err-value.field-0.0 (first_failing (branch_checks names at (branches_of (map plain_branch c.args.branches.now)))) c.from_residual-in_err-value.ensures.1
     (values_end names at c.args.branches.now (drop (c.loop-branch.branch-index + 1) c.args.branches.now) c.branch-item.result c.loop-branch.branch-index
     (option_map seen c.in_ok-when.when.ty) c.in_err-value.field-0.0 s c.loop-branch.invariant.passes told.0 c.in_err-value.ensures)
+
+pub branches_typed-typed-requires-in-loop-branch : goal.branches_typed-typed-requires-in-loop-branch
+branches_typed-typed-requires-in-loop-branch g t c κs within =
+    let knows = g.C.Naming.knows c.args.scope.now in
+    let xs = c.args.branches.now in
+    let b = c.branch-item.result in
+    let rest = drop (c.loop-branch.branch-index + 1) xs in
+    let s = taken xs c.loop-branch.branch-index b c.loop-branch-test.true c.branch-item.is in
+    (search (rules, branch_lemmas), (within, value_known knows xs rest b c.loop-branch.branch-index s c.loop-branch.invariant.known))
 
 pub branches_typed-loop-branch-preserved : goal.branches_typed-loop-branch-preserved
 branches_typed-loop-branch-preserved g t c =
@@ -519,7 +552,9 @@ branches_typed-loop-branch-preserved g t c =
       branches = grown (map plain_flat_branch c.loop-branch.cases.branches.items) (map plain_flat_branch c.add_branch.new.cases.branches.items) (map (branch_flat names leaf at c.args.under) xs)
           (plain_flat c.in_ok-when.when.expr, plain_flat c.in_ok-value.value.expr) (branch_flat names leaf at c.args.under) c.branch-item.result xs rest c.loop-branch.branch-index c.in_ok-add_branch.ensures.branches
           (ap (λ z. (z, plain_flat c.in_ok-value.value.expr)) told.1 ∙ ap (λ z. (flat_tree names leaf (single at) c.args.under (plain c.branch-item.result.when), z)) c.in_ok-value.ensures.1) s c.loop-branch.invariant.branches;
-      set = set_grown c.loop-branch.cases.has_set c.add_branch.new.cases.has_set c.in_ok-value.value.is_set (list_any value_set xs) c.branch-item.result xs rest c.loop-branch.branch-index c.in_ok-add_branch.ensures.set c.in_ok-value.ensures.2 s c.loop-branch.invariant.set;
+      set = any_grown value_set c.loop-branch.cases.has_set c.add_branch.new.cases.has_set c.in_ok-value.value.is_set (list_any value_set xs) c.branch-item.result xs rest c.loop-branch.branch-index c.in_ok-add_branch.ensures.set c.in_ok-value.ensures.2 s c.loop-branch.invariant.set;
+      inputs = any_grown (branch_reaches names) c.loop-branch.cases.reaches_input c.add_branch.new.cases.reaches_input (c.in_ok-when.when.reaches_input || c.in_ok-value.value.reaches_input) (list_any (branch_reaches names) xs) c.branch-item.result xs rest c.loop-branch.branch-index
+          c.in_ok-add_branch.ensures.inputs (ap (λ b. b || c.in_ok-value.value.reaches_input) told.3 ∙ ap (λ b. reaches names (plain c.branch-item.result.when) || b) c.in_ok-value.ensures.3) s c.loop-branch.invariant.inputs;
     }
 
 pub branches_typed-returns-clause-branches : goal.branches_typed-returns-clause-branches
@@ -534,4 +569,10 @@ branches_typed-returns-clause-branches g t c =
 pub branches_typed-returns-clause-set : goal.branches_typed-returns-clause-set
 branches_typed-returns-clause-set g t c =
     let xs = c.args.branches.now in
-    set_finished c.loop-branch.cases.has_set (list_any value_set xs) xs c.loop-branch.branch-index c.loop-branch-test.false c.loop-branch.invariant.set ∙ sets_are xs
+    any_finished value_set c.loop-branch.cases.has_set (list_any value_set xs) xs c.loop-branch.branch-index c.loop-branch-test.false c.loop-branch.invariant.set ∙ sets_are xs
+
+pub branches_typed-returns-clause-inputs : goal.branches_typed-returns-clause-inputs
+branches_typed-returns-clause-inputs g t c =
+    let names = g.C.Naming.names c.args.scope.now in
+    let xs = c.args.branches.now in
+    any_finished (branch_reaches names) c.loop-branch.cases.reaches_input (list_any (branch_reaches names) xs) xs c.loop-branch.branch-index c.loop-branch-test.false c.loop-branch.invariant.inputs ∙ any_branch names xs

@@ -8,7 +8,7 @@ use Rattle.smv_types.specs.View.{permissions_seen}
 use Rattle.smv_types.specs.Outcome.{outcome, links_known, branches_known, trees_known}
 use Rattle.smv_types.specs.Steps.{passed}
 use Rattle.smv_flat.specs.FlatView.{plain_flat, plain_flat_link, plain_flat_branch}
-use Rattle.smv_flat.proofs.TypedNodes.{link_flat, same_flat, branch_flat, value_set, part_flat}
+use Rattle.smv_flat.proofs.TypedNodes.{link_flat, link_reaches, same_flat, branch_flat, branch_reaches, value_set, part_flat, part_reaches}
 use Rattle.smv_flat.proofs.typing.+typing.Given as goal
 
 abbrev pub invariant-fronts_typed-loop-link : goal.invariant-fronts_typed-loop-link
@@ -18,6 +18,7 @@ invariant-fronts_typed-loop-link g l = record {
       ≡ outcome (linked (g.C.Naming.names l.scope) (permissions_seen l.at) l.place (passed (option_map seen l.fn.first)) (links_of (map plain_link l.links)));
   links : map plain_flat_link l.operands.items ++ map (link_flat (g.C.Naming.names l.scope) (g.C.Naming.leaves l.scope) (permissions_seen l.at) l.under) (drop l.link-index l.links)
       ≡ map (link_flat (g.C.Naming.names l.scope) (g.C.Naming.leaves l.scope) (permissions_seen l.at) l.under) l.links;
+  inputs : (l.reaches_input || list_any (link_reaches (g.C.Naming.names l.scope)) (drop l.link-index l.links)) ≡ list_any (link_reaches (g.C.Naming.names l.scope)) l.links;
 }
 
 abbrev pub invariant-operands_typed-loop-link : goal.invariant-operands_typed-loop-link
@@ -29,6 +30,7 @@ invariant-operands_typed-loop-link g l = record {
       ≡ option_map seen l.fn.first ∷ link_types (g.C.Naming.names l.scope) (permissions_seen l.at) (links_of (map plain_link l.links));
   links : map plain_flat_link l.operands.items ++ map (same_flat (g.C.Naming.names l.scope) (g.C.Naming.leaves l.scope) (permissions_seen l.at) l.under) (drop l.link-index l.links)
       ≡ map (same_flat (g.C.Naming.names l.scope) (g.C.Naming.leaves l.scope) (permissions_seen l.at) l.under) l.links;
+  inputs : (l.reaches_input || list_any (link_reaches (g.C.Naming.names l.scope)) (drop l.link-index l.links)) ≡ list_any (link_reaches (g.C.Naming.names l.scope)) l.links;
 }
 
 abbrev pub invariant-parts_typed-loop-part : goal.invariant-parts_typed-loop-part
@@ -40,6 +42,7 @@ invariant-parts_typed-loop-part g l = record {
       ≡ tree_types (g.C.Naming.names l.scope) (permissions_seen l.at) (trees_of (map plain l.parts));
   exprs : map plain_flat l.all.exprs.items ++ map (part_flat (g.C.Naming.names l.scope) (g.C.Naming.leaves l.scope) (permissions_seen l.at) l.under) (drop l.part-index l.parts)
       ≡ map (part_flat (g.C.Naming.names l.scope) (g.C.Naming.leaves l.scope) (permissions_seen l.at) l.under) l.parts;
+  inputs : (l.all.reaches_input || list_any (part_reaches (g.C.Naming.names l.scope)) (drop l.part-index l.parts)) ≡ list_any (part_reaches (g.C.Naming.names l.scope)) l.parts;
 }
 
 abbrev pub invariant-branches_typed-loop-branch : goal.invariant-branches_typed-loop-branch
@@ -54,4 +57,5 @@ invariant-branches_typed-loop-branch g l = record {
   branches : map plain_flat_branch l.cases.branches.items ++ map (branch_flat (g.C.Naming.names l.scope) (g.C.Naming.leaves l.scope) (permissions_seen l.at) l.under) (drop l.branch-index l.branches)
       ≡ map (branch_flat (g.C.Naming.names l.scope) (g.C.Naming.leaves l.scope) (permissions_seen l.at) l.under) l.branches;
   set : (l.cases.has_set || list_any value_set (drop l.branch-index l.branches)) ≡ list_any value_set l.branches;
+  inputs : (l.cases.reaches_input || list_any (branch_reaches (g.C.Naming.names l.scope)) (drop l.branch-index l.branches)) ≡ list_any (branch_reaches (g.C.Naming.names l.scope)) l.branches;
 }
