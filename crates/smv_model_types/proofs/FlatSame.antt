@@ -1,4 +1,4 @@
--- The flat form of an expression, as its type, hangs on what its own paths are.
+-- The flat form of an expression, as its type and whether it reaches an input, hangs on what its own paths are.
 use Rattle.std.proofs.Common.{◌≡◌, Bool, true, ◌||◌, List, [], ◌∷◌, None, Ok, refl, sym, ap, ◌∙◌, subst}
 use mathlib.Core.Logic.{inl, inr}
 use Rattle.smv_text.specs.declared.tree.Path.{Path}
@@ -8,10 +8,12 @@ use Rattle.smv_meaning.specs.Checks.{Position, single, under_next, across, behin
 use Rattle.smv_meaning.specs.Orders.{SameOn}
 use Rattle.smv_laws.proofs.Cycles.{In}
 use Rattle.smv_laws.proofs.Agreeing.{more_paths, more_branches, typing_same}
+use Rattle.smv_laws.proofs.Settling.{any_same}
 use Rattle.smv_items.specs.FlatItems.{Leaf}
-use Rattle.smv_flat.specs.FlatTree.{FlatTree, flat_prefix, flat_chain, flat_choice, flat_cases, flat_select, flat_call, flat_set, flat_link, FlatBranches, flat_branch, flat_tree_then, leaf_tree, has_set, is_set, unless_set, flat_tree, flat_links, flat_branches, flat_trees}
+use Rattle.smv_flat.specs.FlatTree.{FlatTree, flat_prefix, flat_chain, flat_choice, flat_cases, flat_select, flat_call, flat_set, flat_link, FlatBranches, flat_branch, flat_tree_then, leaf_tree, has_set, is_set, reaches, unless_set, flat_tree, flat_links, flat_branches, flat_trees}
 use Rattle.smv_flat.specs.declared.nodes.Typed.{Typed}
 use Rattle.smv_flat.specs.FlatView.{EndsTyped, EndsAs}
+use Rattle.smv_flat.specs.laws.Reaching.{reaches_by_path}
 
 -- the paths are the same to the types
 abbrev pub SameNames : (n m : Path → Named) → List Path → Type 0
@@ -77,9 +79,15 @@ mutual
       ap (λ (f : FlatTree). flat_tree_then f (flat_trees n leaf at under es)) (flat_same n m leaf at under e (tree_paths es more) s)
       ∙ ap (flat_tree_then (flat_tree m leaf at under e)) (trees_same n m leaf at under es more (λ q i. s q (more_paths e (tree_paths es more) q i)))
 
+reaches_same : (n m : Path → Named) (e : Tree) → SameNames n m (paths_of e []) → reaches n e ≡ reaches m e
+reaches_same n m e s = reaches_by_path n e ∙ any_same n m (paths_of e []) s ∙ sym (reaches_by_path m e)
+
 -- where the paths are the same, an expression ends the same
 pub ends_same : (n m : Path → Named) (leaf : Path → Leaf) (at : Position) (under : Bool) (e : Tree) (x : Typed) → SameOn n m (paths_of e []) → EndsTyped n leaf at under e (Ok x) → EndsTyped m leaf at under e (Ok x)
 ends_same n m leaf at under e x s h =
     let same = each_same n m (paths_of e []) s in
-    let typed : EndsAs (typing m at e) (flat_tree n leaf at under e) (is_set e) (Ok x) = subst (λ (a : Typing). EndsAs a (flat_tree n leaf at under e) (is_set e) (Ok x)) (typing_same n m at e [] same) h in
-    subst (λ (f : FlatTree). EndsAs (typing m at e) f (is_set e) (Ok x)) (flat_same n m leaf at under e [] same) typed
+    let typed : EndsAs (typing m at e) (flat_tree n leaf at under e) (is_set e) (reaches n e) (Ok x) =
+    subst (λ (a : Typing). EndsAs a (flat_tree n leaf at under e) (is_set e) (reaches n e) (Ok x)) (typing_same n m at e [] same) h in
+    let formed : EndsAs (typing m at e) (flat_tree m leaf at under e) (is_set e) (reaches n e) (Ok x) =
+    subst (λ (f : FlatTree). EndsAs (typing m at e) f (is_set e) (reaches n e) (Ok x)) (flat_same n m leaf at under e [] same) typed in
+    subst (λ (b : Bool). EndsAs (typing m at e) (flat_tree m leaf at under e) (is_set e) b (Ok x)) (reaches_same n m e same) formed

@@ -6,13 +6,19 @@ use Rattle.std.proofs.lemmas.Bool.{eqb-true}
 use Rattle.std.proofs.lemmas.Slice.Eq.{bytes_eq-Decides}
 use Rattle.smv_text.specs.Tree.{Tree}
 use Rattle.smv_meaning.specs.Instances.{Instance}
-use Rattle.smv_meaning.specs.Names.{Local, body_of, nothing, local}
-use Rattle.smv_meaning.specs.Naming.{in_body}
+use Rattle.smv_meaning.specs.Names.{Local, body_of, nothing, local, body_at}
+use Rattle.smv_meaning.specs.Types.{ExprType}
+use Rattle.smv_meaning.specs.Checks.{Named, typing, first_failing}
+use Rattle.smv_meaning.specs.Naming.{in_body, named_found}
 use Rattle.smv_meaning.specs.Settled.{types_in}
 use Rattle.smv_items.specs.FlatItems.{Content, variable, definition, actual, Origin, leaf_in, origins_of, is_body}
 use Rattle.smv_items.specs.FlatOrigins.{is_body_at}
 use Rattle.smv_items.specs.laws.Declarations.{DiffersInside}
+use Rattle.smv_intervals.specs.View.{seen}
+use Rattle.smv_types.specs.laws.Composing.{ok_parts}
 use Rattle.smv_flat.specs.declared.nodes.Typed.{Typed}
+use Rattle.smv_flat.specs.FlatView.{EndsTyped}
+use Rattle.smv_flat.specs.laws.Reaching.{reaches_by_path}
 use Rattle.smv_flat_laws.proofs.FlatPlaces.{position_cons}
 use Rattle.smv_flat_laws.proofs.FlatNames.{IsLocal, item_local}
 use Rattle.smv_model_types.specs.Entries.{Entries, entries_names}
@@ -73,6 +79,17 @@ tried_is t entries i x j e o l r h y is k b other =
     let tried = subst (IsTried (entries_names t entries j) (leaf_in t j) e) is h in
     let done : IsTypedIn t j e y = ends_same (entries_names t entries j) (types_in true t j) (leaf_in t j) in_body false e y (r j e l) tried in
     subst (λ n. IsTypedIn t n b y) (sym js) (subst (λ c. IsTypedIn t j c y) (sym es) done)
+
+abbrev named_as : Option ExprType → Bool → Named
+named_as o b = record { type = o; is_instance = false; reaches_input = b }
+
+-- a body that is typed has its type, and reaches an input where one of its paths does
+pub typed_named : (t : List Instance) (entries : Entries) (j : ℕ) (e : Tree) (x : Typed) → EndsTyped (entries_names t entries j) (leaf_in t j) in_body false e (Ok x)
+    → named_as (option_map seen x.ty) x.reaches_input ≡ named_found true (entries_names t entries) (body_at 0 [] j e)
+typed_named t entries j e x h =
+    let names = entries_names t entries j in
+    let a = typing names in_body e in
+    ap (λ o. named_as o x.reaches_input) (sym (ok_parts (first_failing a.checks) a.type (option_map seen x.ty) h.0).1) ∙ ap (named_as a.type) (h.3 ∙ reaches_by_path names e)
 
 -- ---- what is kept
 

@@ -11,7 +11,6 @@ use Rattle.smv_meaning.specs.Orders.{SameOn}
 use Rattle.smv_meaning.specs.Naming.{in_body}
 use Rattle.smv_meaning.specs.Phases.{Body}
 use Rattle.smv_meaning.specs.Settled.{types_in}
-use Rattle.smv_intervals.specs.declared.types.Ty.{Ty}
 use Rattle.smv_items.specs.FlatItems.{Content, variable, definition, actual, Origin, Leaf, leaf_in, origins_of}
 use Rattle.smv_flat.specs.declared.nodes.Typed.{Typed}
 use Rattle.smv_flat.specs.FlatView.{EndsTyped}
@@ -61,10 +60,6 @@ IsTried names leaf e None = None ≡ (typing names in_body e).type
 abbrev pub has_own_body : Local → Bool
 has_own_body (body_of j e) = true
 has_own_body l = false
-
-abbrev pub tried_type : Option Typed → Option Ty
-tried_type None = None
-tried_type (Some x) = x.ty
 
 -- the entries have what the body of this instance and name refers to
 abbrev pub HasReferred : List Instance → Entries → Body → Type 0

@@ -1,18 +1,16 @@
 // The types of definitions and actuals, each after those to which it refers.
-ghost use Rattle.std.specs.Prelude.{◌≡◌, ◌<◌, true, [], Some, length, map, option_map, slice_index_or, IfOk, OnOk};
+ghost use Rattle.std.specs.Prelude.{◌≡◌, ◌<◌, true, [], Some, length, map, slice_index_or, IfOk, OnOk};
 ghost use Rattle.std.specs.List.{AllByRecursion, list_any};
 ghost use Rattle.smv_text.specs.View.{plain};
 ghost use Rattle.smv_meaning.specs.Names.{body_at, local};
-ghost use Rattle.smv_meaning.specs.Checks.{typing};
-ghost use Rattle.smv_meaning.specs.Naming.{in_body, named_found};
+ghost use Rattle.smv_meaning.specs.Naming.{named_found};
 ghost use Rattle.smv_meaning.specs.Bodies.{placed_bodies, IsBodyOrder};
 ghost use Rattle.smv_instances.specs.View.{instance_plain};
 ghost use Rattle.smv_references.specs.View.{body_plain, path_seen, key_of};
-ghost use Rattle.smv_intervals.specs.View.{seen};
 ghost use Rattle.smv_types.specs.View.{named_seen};
 ghost use Rattle.smv_items.specs.FlatItems.{leaf_in};
 ghost use Rattle.smv_items.specs.laws.Declarations.{DiffersInside};
-ghost use Rattle.smv_model_types.specs.Kept.{AreKept, HasReferred, IsBodyOf, IsTried, has_own_body, tried_type};
+ghost use Rattle.smv_model_types.specs.Kept.{AreKept, HasReferred, IsBodyOf, IsTried, has_own_body};
 ghost use Rattle.smv_model_types.specs.Entries.{entries_seen, entries_names, Becomes, IsPut, HasEach};
 ghost use Rattle.smv_model_types.specs.Reading.{entries_of, instances_of, names_of};
 
@@ -70,19 +68,24 @@ fn body_named<'c, 's, 'a, 'n>(
     e: &Expr,
     found: &Option<Typed>,
 ) -> Result<Named, NoMemory>
-    requires of_type { option_map seen (tried_type found.now) ≡ (typing (names_of names.now) in_body (plain e.now)).type }
+    requires { IsTried (names_of names.now) (leaf_in (instances_of names.now) names.now.instance) (plain e.now) found.now }
     ensures { IfOk result (λ n. named_seen n ≡ named_found true (entries_names (instances_of names.now) (entries_of names.now)) (body_at 0 [] names.now.instance (plain e.now))) }
 {
-    let paths = paths_in(alloc, e)?;
-    let ty = match found {
-        Some(x) => x.ty,
-        None => None,
-    };
-    Ok(Named {
-        ty,
-        is_instance: false,
-        reaches_input: one_reaches(names, paths.as_slice()),
-    })
+    match found {
+        Some(x) => Ok(Named {
+            ty: x.ty,
+            is_instance: false,
+            reaches_input: x.reaches_input,
+        }),
+        None => {
+            let paths = paths_in(alloc, e)?;
+            Ok(Named {
+                ty: None,
+                is_instance: false,
+                reaches_input: one_reaches(names, paths.as_slice()),
+            })
+        }
+    }
 }
 
 // Stores the properties of the body of this instance and name, and the body itself if it was typed, under the number of
