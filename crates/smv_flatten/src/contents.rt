@@ -1,8 +1,8 @@
 // The items and formulas of a model, made as its types are checked.
-ghost use Rattle.std.specs.Prelude.{◌≡◌, ◌<◌, ◌^◌, [], length, map, option_map, IfOk};
+ghost use Rattle.std.specs.Prelude.{◌≡◌, ◌<◌, ◌^◌, ◌++◌, [], None, length, map, option_map, IfOk, IfErr};
 ghost use Rattle.std.specs.List.{AllByRecursion};
-ghost use Rattle.smv_meaning.specs.Checked.{type_checks_of};
-ghost use Rattle.smv_meaning.specs.Checks.{first_failing};
+ghost use Rattle.smv_meaning.specs.Checked.{path_checks_of, type_checks_of};
+ghost use Rattle.smv_meaning.specs.Checks.{first_failing, IsBad};
 ghost use Rattle.smv_meaning.specs.Names.{found_in};
 ghost use Rattle.smv_meaning.specs.Phases.{assignment_checks};
 ghost use Rattle.smv_meaning.specs.Bodies.{placed_bodies, IsBodyOrder};
@@ -17,7 +17,6 @@ ghost use Rattle.smv_flat.specs.FlatForms.{forms_of};
 ghost use Rattle.smv_flat.specs.FlatFormulas.{form_plain};
 ghost use Rattle.smv_flat_laws.specs.FlatOrders.{item_order};
 ghost use Rattle.smv_names.specs.Assigning.{numbered_checks};
-ghost use Rattle.smv_names.specs.Outcome.{Settles};
 ghost use Rattle.smv_references.specs.View.{body_plain};
 
 use crate::item_list::flat_items;
@@ -28,7 +27,7 @@ use smv_instances::Table;
 use smv_intervals::Ty;
 use smv_items::{FlatItem, Origins, Symbols, dotted_paths, numbers_of, origins_in, symbols_in};
 use smv_model_types::types_checked;
-use smv_names::{NamesEnd, NumberedAssignment};
+use smv_names::{NamesEnd, NumberedAssignment, paths_checked};
 use smv_references::Body;
 use std::alloc::Global;
 use text_core::{List, Name, NoMemory};
@@ -66,7 +65,11 @@ struct Formed {
     order: List<usize>,
 }
 
-// Checks the types, and makes the formulas over the numbers of items.
+// Checks the types and the paths, and makes the formulas over the numbers of items.
+//
+// The types of most models tell that each path has a target. Only where they don't, or refuse, are the paths checked for
+// themselves, since their refusal comes first.
+#[tactic(auto, using(crate::specs::laws::Composing::ends, crate::specs::laws::Composing::ends_behind))]
 fn formed_in<'a>(
     alloc: Global,
     table: &Table<'a>,
@@ -81,7 +84,9 @@ fn formed_in<'a>(
     requires origins { map origin_plain sources.now.origins.items ≡ origins_of (map instance_plain table.now) }
     requires paths { sources.now.paths.items ≡ map (path_of (map instance_plain table.now)) (origins_of (map instance_plain table.now)) }
     requires symbols { sources.now.symbols ≡ symbols_of (map instance_plain table.now) }
-    ensures checks { Settles result (type_checks_of (map instance_plain table.now)) }
+    ensures found { IfOk result (λ f. first_failing (path_checks_of (map instance_plain table.now)) ≡ None) }
+    ensures typed { IfOk result (λ f. first_failing (type_checks_of (map instance_plain table.now)) ≡ None) }
+    ensures refused { IfErr result (λ e. IsBad e (first_failing (path_checks_of (map instance_plain table.now) ++ type_checks_of (map instance_plain table.now)))) }
     ensures types { IfOk result (λ f. map (option_map seen) f.types.items ≡ map (λ m. content_type (map instance_plain table.now) m.content) (origins_of (map instance_plain table.now))) }
     ensures formulas { IfOk result (λ f. map form_plain f.formulas.items ≡ forms_of (map instance_plain table.now)) }
     ensures assigned { IfOk result (λ f. first_failing (numbered_checks [] f.assigned.items) ≡ first_failing (assignment_checks (found_in (map instance_plain table.now)) (map instance_plain table.now))) }
@@ -89,7 +94,7 @@ fn formed_in<'a>(
 {
     let origins = sources.origins.as_slice();
     let numbers = numbers_of(alloc, origins, sources.paths.as_slice())?;
-    let built = types_checked(
+    let built = match types_checked(
         alloc,
         table,
         bodies,
@@ -97,7 +102,16 @@ fn formed_in<'a>(
         origins,
         &numbers,
         &sources.symbols,
-    )?;
+    ) {
+        Ok(built) => built,
+        Err(end) => {
+            paths_checked(alloc, table)?;
+            return Err(end);
+        }
+    };
+    if !built.all_found {
+        paths_checked(alloc, table)?;
+    }
     let order = item_order(alloc, bodies, order.as_slice(), &numbers.bodies)?;
     Ok(Formed {
         formulas: built.forms,
@@ -118,9 +132,9 @@ pub(crate) struct Contents {
     pub(crate) order: List<usize>,
 }
 
-/// Checks the types of a model, and returns its contents.
+/// Checks the paths and the types of a model, and returns its contents.
 ///
-/// `Err` is out of memory or the first refusal.
+/// `Err` is out of memory or the first refusal, that of a path before that of a type.
 pub(crate) fn contents_of<'a>(
     alloc: Global,
     table: &Table<'a>,
@@ -131,7 +145,9 @@ pub(crate) fn contents_of<'a>(
     requires order { IsBodyOrder (map instance_plain table.now) order.now }
     requires differ { AllByRecursion DiffersInside (map instance_plain table.now) }
     requires few { AreFew (map instance_plain table.now) }
-    ensures checks { Settles result (type_checks_of (map instance_plain table.now)) }
+    ensures found { IfOk result (λ x. first_failing (path_checks_of (map instance_plain table.now)) ≡ None) }
+    ensures typed { IfOk result (λ x. first_failing (type_checks_of (map instance_plain table.now)) ≡ None) }
+    ensures refused { IfErr result (λ e. IsBad e (first_failing (path_checks_of (map instance_plain table.now) ++ type_checks_of (map instance_plain table.now)))) }
     ensures items { IfOk result (λ x. map item_plain x.items.items ≡ map (flat_item_of (map instance_plain table.now)) (origins_of (map instance_plain table.now))) }
     ensures symbols { IfOk result (λ x. x.symbols ≡ symbols_of (map instance_plain table.now)) }
     ensures formulas { IfOk result (λ x. map form_plain x.formulas.items ≡ forms_of (map instance_plain table.now)) }

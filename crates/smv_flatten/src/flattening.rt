@@ -1,9 +1,10 @@
 // The flat form of a model that passes its checks.
-ghost use Rattle.std.specs.Prelude.{◌≡◌, ◌++◌, map, length, sum_by, IfOk};
+ghost use Rattle.std.specs.Prelude.{◌≡◌, ◌++◌, List, None, map, length, sum_by, IfOk, IfErr};
 ghost use Rattle.std.specs.List.{AllByRecursion};
 ghost use Rattle.smv_text.specs.View.{plain_source};
 ghost use Rattle.smv_meaning.specs.Instances.{instances_of, weight_of};
 ghost use Rattle.smv_meaning.specs.Checked.{path_checks_of};
+ghost use Rattle.smv_meaning.specs.Checks.{first_failing, IsBad};
 ghost use Rattle.smv_meaning.specs.Settled.{cycle_checks_of};
 ghost use Rattle.smv_meaning.specs.Phases.{checks_of, invariants_in, IsAccepted};
 ghost use Rattle.smv_meaning.specs.Bodies.{placed_bodies, IsBodyOrder};
@@ -60,17 +61,22 @@ struct Ordered<'a> {
     order: List<usize>,
 }
 
-// The phases of paths and cycles.
-#[tactic(auto, using(crate::specs::laws::Composing::ends, crate::specs::laws::Composing::ends_behind, crate::specs::laws::Composing::both_pass))]
+// The phase of cycles. Paths are checked here only where it refuses, since their refusal comes first.
+#[tactic(auto, using(crate::specs::laws::Composing::ends, crate::specs::laws::Composing::ends_behind))]
 fn ordered_in<'a>(alloc: Global, table: &Table<'a>) -> Result<Ordered<'a>, NamesEnd>
-    ensures checks { Settles result (path_checks_of (map instance_plain table.now) ++ cycle_checks_of (map instance_plain table.now)) }
+    ensures passes { IfOk result (λ o. first_failing (cycle_checks_of (map instance_plain table.now)) ≡ None) }
+    ensures refused { IfErr result (λ e. IsBad e (first_failing (path_checks_of (map instance_plain table.now) ++ cycle_checks_of (map instance_plain table.now)))) }
     ensures bodies { IfOk result (λ o. map body_plain o.bodies.items ≡ placed_bodies (map instance_plain table.now)) }
     ensures order { IfOk result (λ o. IsBodyOrder (map instance_plain table.now) o.order) }
 {
-    paths_checked(alloc, table)?;
     let bodies = bodies_in(alloc, table)?;
-    let order = cycles_checked(alloc, table, bodies.as_slice())?;
-    Ok(Ordered { bodies, order })
+    match cycles_checked(alloc, table, bodies.as_slice()) {
+        Ok(order) => Ok(Ordered { bodies, order }),
+        Err(end) => {
+            paths_checked(alloc, table)?;
+            Err(end)
+        }
+    }
 }
 
 // The flat form of these instances.

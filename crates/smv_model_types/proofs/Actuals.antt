@@ -12,15 +12,23 @@ use Rattle.smv_intervals.specs.View.{seen}
 use Rattle.smv_items.specs.FlatItems.{Origin, with_content, actual_content, domain_content, variable_item, content_type}
 use Rattle.smv_flat.specs.FlatForms.{body_forms}
 use Rattle.smv_flat.specs.FlatFormulas.{form_plain}
-use Rattle.smv_model_types.specs.declared.building.Building.{Building}
+use Rattle.smv_model_types.specs.declared.built.Building.{Building}
 use Rattle.smv_model_types.specs.Kept.{AreKept, IsBodyAt, body_or_none}
 use Rattle.smv_model_types.specs.Building.{Adds, BodyAdds, IsReady}
 use Rattle.smv_model_types.specs.Outcome.{is_path}
 use Rattle.smv_model_types.proofs.BuildingLaws.{adds_nothing, actual_adds}
 
-pub path_adds : (t : List Instance) (i j : ℕ) (e : Tree) (b : Building) → is_path e ≡ true → Adds t (with_content i [] (actual_content j e)) [] b b
-path_adds t i j (name p x) b h = adds_nothing t b
-path_adds t i j e b h = cc
+-- a path adds nothing, whatever is then known of the paths so far
+pub path_adds : (t : List Instance) (i j : ℕ) (e : Tree) (old new : Building) → is_path e ≡ true → new.types ≡ old.types → new.forms ≡ old.forms → new.rest ≡ old.rest → new.assigned ≡ old.assigned → new.kept ≡ old.kept
+    → Adds t (with_content i [] (actual_content j e)) [] old new
+path_adds t i j (name p x) old new h types forms rest assigned kept = record {
+  types = ap (λ ts. map (option_map seen) ts.items) types ∙ sym (append_none (map (option_map seen) old.types.items));
+  forms = ap (λ fs. map form_plain fs.items) forms ∙ sym (append_none (map form_plain old.forms.items));
+  rest = ap (λ fs. map form_plain fs.items) rest ∙ sym (append_none (map form_plain old.rest.items));
+  assigned = ap (λ xs. xs.items) assigned ∙ sym (append_none old.assigned.items);
+  kept = λ r. subst (AreKept t) (ap (λ ks. ks.items) (sym kept)) r;
+}
+path_adds t i j e old new h types forms rest assigned kept = cc
 
 pub other_adds : (t : List Instance) (i j : ℕ) (e : Tree) (old new : Building) → is_path e ≡ false → BodyAdds t i j e old new → Adds t (with_content i [] (actual_content j e)) [] old new
 other_adds t i j (name p x) old new h a = cc

@@ -16,7 +16,7 @@ use Rattle.smv_items.specs.FlatItems.{Origin, definition, actual, actual_items, 
 use Rattle.smv_flat.specs.FlatForms.{content_form, body_forms, element_forms}
 use Rattle.smv_meaning.specs.Names.{parent_of}
 use Rattle.smv_flat.specs.FlatFormulas.{form_plain}
-use Rattle.smv_model_types.specs.declared.building.Building.{Building}
+use Rattle.smv_model_types.specs.declared.built.Building.{Building}
 use Rattle.smv_model_types.specs.Kept.{AreKept}
 use Rattle.smv_model_types.specs.Building.{Piece, element_pieces, Adds, BodyAdds, InstanceAdds}
 use Rattle.std.proofs.Common.{Bool, false, Option, None, Some, Ok}

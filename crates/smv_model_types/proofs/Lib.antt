@@ -9,6 +9,8 @@ pub mod FlatSame
 pub mod KeptLemmas
 pub mod Stored
 pub mod Ready
+pub mod TypedPaths
+pub mod Finding
 pub mod Walks
 pub mod Actuals
 pub mod Parameters

@@ -1,23 +1,21 @@
 -- Actuals and their parameters.
 use Rattle.std.specs.Prelude.{Result, Ok, Err, OnOk}
-use Rattle.std.proofs.Common.{◌≡◌, ℕ, ◌+◌, ◌≤◌, List, [], ◌∷◌, ◌++◌, length, map, flat_map, Option, None, Some, option_map, append_assoc, refl, sym, ap, ◌∙◌, subst, arith}
+use Rattle.std.proofs.Common.{◌≡◌, false, ℕ, ◌+◌, ◌≤◌, List, [], ◌∷◌, ◌++◌, length, map, flat_map, Option, None, Some, option_map, append_assoc, refl, sym, ap, ◌∙◌, subst, arith}
 use Rattle.std.proofs.lemmas.List.{map-append, length-map}
 use Rattle.smv_text.specs.declared.tree.Expr.{Expr}
 use Rattle.smv_text.specs.declared.tree.Path.{Path}
 use Rattle.smv_text.specs.declared.tree.Parameter.{Parameter}
 use Rattle.smv_text.specs.Tree.{Tree, trees_of}
 use Rattle.smv_text.specs.View.{plain}
-use Rattle.smv_meaning.specs.Checks.{Check, Named, first_failing}
-use Rattle.smv_meaning.specs.laws.Composing.{goes, ends_behind}
+use Rattle.smv_meaning.specs.Checks.{Check, Named}
 use Rattle.text_core.specs.declared.end.End.{End}
-use Rattle.smv_names.specs.Outcome.{Settles}
 use Rattle.smv_meaning.specs.Instances.{Instance}
 use Rattle.smv_meaning.specs.Phases.{actual_typing, actuals_typing}
 use Rattle.smv_intervals.specs.View.{seen}
 use Rattle.smv_flat.specs.FlatFormulas.{form_plain}
 use Rattle.smv_items.specs.FlatItems.{Origin, Content, with_content, actual_content, actual_items, content_type}
 use Rattle.smv_flat.specs.FlatForms.{content_form, body_forms}
-use Rattle.smv_model_types.specs.declared.building.Building.{Building}
+use Rattle.smv_model_types.specs.declared.built.Building.{Building}
 use Rattle.smv_model_types.specs.Building.{Piece, Adds, IsReady, own_items}
 use Rattle.smv_model_types.proofs.Ready.{ready_mapped}
 use Rattle.smv_model_types.proofs.Walks.{actuals_each}
@@ -92,13 +90,10 @@ own_ready t ms xs now e r = ready_mapped t unnamed ms xs now (λ m. refl) e r
 pub own_adds : (t : List Instance) (ms xs : List Origin) (ps : List Piece) (old new : Building) → map unnamed ms ≡ xs → Adds t xs ps old new → Adds t ms ps old new
 own_adds t ms xs ps old new e h = named_adds t ms ps old new (subst (λ ys. Adds t ys ps old new) (sym e) h)
 
-pub settles_behind : (r : Result (Unit {0}) End) (xs ys zs : List Check) → zs ≡ xs ++ ys → first_failing xs ≡ None → Settles r ys → Settles r zs
-settles_behind (Ok u) xs ys zs e h s = ap first_failing e ∙ goes xs ys h ∙ s
-settles_behind (Err end) xs ys zs e h s = subst (Settles {X = Unit {0}} (Err end)) (sym e) (ends_behind end xs ys h s)
-
-pub on_ok : {X : Type 0} (r : Result (Unit {0}) End) → X → OnOk r X
-on_ok (Ok u) x = x
-on_ok (Err end) x = tt
+-- whatever is then known of the paths so far
+pub adds_unfound : (t : List Instance) (ms : List Origin) (ps : List Piece) (old new : Building) → Adds t ms ps old new
+    → Adds t ms ps old (record { forms = new.forms; rest = new.rest; assigned = new.assigned; types = new.types; kept = new.kept; all_found = false })
+adds_unfound t ms ps old new h = record { types = h.types; forms = h.forms; rest = h.rest; assigned = h.assigned; kept = h.kept }
 
 pub on_ok_map : {X Y : Type 0} (r : Result (Unit {0}) End) → (X → Y) → OnOk r X → OnOk r Y
 on_ok_map (Ok u) f x = f x

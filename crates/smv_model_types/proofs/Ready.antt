@@ -3,7 +3,7 @@ use Rattle.std.proofs.Common.{◌≡◌, ℕ, List, [], ◌∷◌, ◌++◌, len
 use Rattle.smv_text.specs.Tree.{Tree}
 use Rattle.smv_meaning.specs.Instances.{Instance}
 use Rattle.smv_items.specs.FlatItems.{Origin, definition, origins_of}
-use Rattle.smv_model_types.specs.declared.building.Building.{Building}
+use Rattle.smv_model_types.specs.declared.built.Building.{Building}
 use Rattle.smv_model_types.specs.Kept.{Stand, IsBodyAt, body_or_none}
 use Rattle.smv_model_types.specs.Building.{Piece, Adds, IsReady}
 use Rattle.smv_model_types.proofs.BuildingLaws.{types_long}

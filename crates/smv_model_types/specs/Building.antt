@@ -1,10 +1,11 @@
 -- What the pass over a model's instances has built.
 use Rattle.std.specs.Prelude.{◌≡◌, ℕ, true, if◌then◌else◌, List, [], ◌∷◌, ◌++◌, map, flat_map, option_map, length, Some, None}
-use Rattle.smv_text.specs.Tree.{Tree, PlainAssignment, PlainElement, assigns}
+use Rattle.smv_text.specs.Tree.{Tree, Trees, PlainAssignment, PlainElement, assigns}
+use Rattle.smv_meaning.specs.Expressions.{paths_of, tree_paths}
 use Rattle.smv_meaning.specs.Instances.{Instance}
 use Rattle.smv_meaning.specs.Names.{found_in}
-use Rattle.smv_meaning.specs.Phases.{Assigned, element_assigns, is_assignable}
-use Rattle.smv_meaning.specs.Checks.{typing}
+use Rattle.smv_meaning.specs.Phases.{Assigned, element_assigns, element_paths, is_assignable, path_check}
+use Rattle.smv_meaning.specs.Checks.{Check, first_failing, typing}
 use Rattle.smv_meaning.specs.Naming.{in_body}
 use Rattle.smv_meaning.specs.Settled.{types_in}
 use Rattle.smv_instances.specs.View.{instance_plain}
@@ -14,7 +15,7 @@ use Rattle.smv_flat.specs.declared.forms.Role.TheVariants.{Body}
 use Rattle.smv_flat.specs.FlatForms.{Form, body_forms, flat_in, number_or_first, assignment_form, element_forms, forms_here}
 use Rattle.smv_flat.specs.FlatFormulas.{form_plain}
 use Rattle.smv_names.specs.declared.assignments.NumberedAssignment.{NumberedAssignment}
-use Rattle.smv_model_types.specs.declared.building.Building.{Building}
+use Rattle.smv_model_types.specs.declared.built.Building.{Building}
 use Rattle.smv_model_types.specs.declared.context.Context.{Context}
 use Rattle.smv_model_types.specs.Kept.{AreKept, Stand}
 
@@ -83,6 +84,23 @@ pub record InstanceAdds (t : List Instance) (i : ℕ) (at : Instance) (old new :
   pub rest : new.rest.items ≡ []
   pub assigned : new.assigned.items ≡ old.assigned.items ++ assigned_here t i at
   pub kept : AreKept t old.kept.items → AreKept t new.kept.items
+
+-- the checks of the paths of an expression, of several, of an assignment and of an element, which are read in the numbered instance
+abbrev pub expression_paths : List Instance → ℕ → Tree → List Check
+expression_paths t i e = map (path_check (found_in t) i) (paths_of e [])
+
+abbrev pub all_paths : List Instance → ℕ → Trees → List Check
+all_paths t i es = map (path_check (found_in t) i) (tree_paths es [])
+
+abbrev pub assignment_paths : List Instance → ℕ → PlainAssignment → List Check
+assignment_paths t i a = path_check (found_in t) i a.target ∷ expression_paths t i a.body
+
+abbrev pub paths_here : List Instance → ℕ → PlainElement → List Check
+paths_here t i e = map (path_check (found_in t) i) (element_paths e)
+
+-- where all paths are known to have targets afterwards, they were before, and these checks of paths hold
+abbrev pub Finds : List Check → Building → Building → Type 0
+Finds cs old new = new.all_found ≡ true → (old.all_found ≡ true) × (first_failing cs ≡ None)
 
 -- the item of an actual that has a parameter, but for its name
 abbrev pub own_items : ℕ → ℕ → Tree → List Origin

@@ -1,68 +1,42 @@
 // The flat forms of a model's expressions, each checked as it is made.
-ghost use Rattle.std.specs.Prelude.{◌≡◌, ◌+◌, ◌<◌, ◌++◌, ◌∷◌, [], ℕ, List, length, map, flat_map, option_map, if◌then◌else◌, Some, None, true, false, OnOk};
+ghost use Rattle.std.specs.Prelude.{◌≡◌, ◌<◌, ◌∷◌, [], ℕ, List, length, map, flat_map, if◌then◌else◌, Some, None, true, false, OnOk};
 ghost use Rattle.smv_text.specs.declared.tree.VarKind.{VarKind};
 ghost use Rattle.smv_text.specs.Tree.{trees_of};
-ghost use Rattle.smv_text.specs.View.{plain, plain_domain, plain_item, plain_definition, plain_assignment, plain_element};
-ghost use Rattle.smv_meaning.specs.Types.{is_truth_type, type_same};
-ghost use Rattle.smv_meaning.specs.Checks.{typing, on_type, on_types};
+ghost use Rattle.smv_text.specs.View.{plain, plain_item, plain_definition, plain_assignment, plain_element};
+ghost use Rattle.smv_meaning.specs.Checks.{typing};
+ghost use Rattle.smv_meaning.specs.Names.{found_in};
 ghost use Rattle.smv_meaning.specs.Instances.{Instance as Specified};
 ghost use Rattle.smv_meaning.specs.Naming.{in_body};
-ghost use Rattle.smv_meaning.specs.Phases.{domain_declares_instance, in_assignment, actual_typing, actuals_typing, formula_typing, assigned_typing, element_typing, type_checks, names_in, is_assignable};
+ghost use Rattle.smv_meaning.specs.Phases.{actual_typing, actuals_typing, formula_typing, assigned_typing, element_typing, type_checks, path_checks, names_in};
 ghost use Rattle.smv_meaning.specs.Settled.{types_in};
-ghost use Rattle.smv_instances.specs.declared.instances.Instance.{Instance as PartOf};
-ghost use Rattle.smv_instances.specs.View.{instance_plain, found_plain};
-ghost use Rattle.smv_intervals.specs.View.{seen};
+ghost use Rattle.smv_instances.specs.View.{instance_plain};
 ghost use Rattle.smv_types.specs.View.{position_seen};
 ghost use Rattle.smv_items.specs.FlatItems.{actual_items, variable_item, definition_item, element_items, items_here, leaf_in};
-ghost use Rattle.smv_items.specs.FlatOrigins.{leaf_plain};
-ghost use Rattle.smv_flat.specs.FlatForms.{flat_in, number_or_first};
-ghost use Rattle.smv_flat.specs.FlatFormulas.{form_plain};
-ghost use Rattle.smv_flat.specs.FlatView.{EndsTyped, plain_flat};
+ghost use Rattle.smv_flat.specs.FlatForms.{flat_in};
+ghost use Rattle.smv_flat.specs.FlatView.{EndsTyped};
 ghost use Rattle.smv_names.specs.Outcome.{Settles};
 ghost use Rattle.smv_model_types.specs.Kept.{AreKept, IsBodyAt};
-ghost use Rattle.smv_model_types.specs.Building.{Adds, BodyAdds, InstanceAdds, IsReady, instances_in, own_items, section_piece, assignment_piece, element_pieces};
+ghost use Rattle.smv_model_types.specs.Building.{Adds, BodyAdds, InstanceAdds, Finds, IsReady, instances_in, own_items, section_piece, assignment_piece, element_pieces, expression_paths, all_paths, assignment_paths, paths_here};
 ghost use Rattle.smv_model_types.specs.Outcome.{is_path, item_typing, definition_typing};
 
+use crate::built::{Building, push};
 use crate::context::{Context, InstanceNames, translated};
 use crate::domains::declared;
 use crate::kept::{Kept, take_at};
-use smv_flat::{FlatExpr, FlatFormula, Role, Typed, typed};
-use smv_instances::{Instance, Target};
-use smv_intervals::Ty;
-use smv_items::Leaf;
-use smv_names::{NamesEnd, NumberedAssignment, is_assignable};
+use crate::parts::{
+    are_same, assigned_item, is_found, is_instance, is_path, is_truth, number, position_of,
+};
+use smv_flat::{Role, Typed, typed};
+use smv_instances::Instance;
+use smv_names::{NamesEnd, NumberedAssignment, is_something};
 use smv_references::place;
 use smv_text::{
-    Assignment, Assignments, Definitions, Domain, Element, Elements, Expr, Item, Items, Parameters,
-    Shape, When,
+    Assignment, Assignments, Definitions, Element, Elements, Expr, Item, Items, Parameters,
 };
 use smv_types::{Permissions, Position};
 use std::alloc::Global;
+use text_core::Refusal;
 use text_core::kinds::smv;
-use text_core::{NoMemory, Refusal};
-
-/// The flat forms of a model's formulas, the types of its items, and its assignments in the order of the text.
-#[derive(Drop)]
-pub struct Built {
-    pub forms: Vec<FlatFormula>,
-    pub types: Vec<Option<Ty>>,
-    pub assigned: Vec<NumberedAssignment>,
-}
-
-/// What the pass over a model's instances has built, and the bodies that it still has to place.
-#[derive(Drop)]
-pub(crate) struct Building {
-    /// The formulas of the instances so far, and the bodies of the instance at hand.
-    pub(crate) forms: Vec<FlatFormula>,
-    /// The assignments and sections of the instance at hand.
-    pub(crate) rest: Vec<FlatFormula>,
-    /// The assignments of the instances so far.
-    pub(crate) assigned: Vec<NumberedAssignment>,
-    /// The types of the items so far.
-    pub(crate) types: Vec<Option<Ty>>,
-    /// The bodies of later items, so far as they passed their checks.
-    pub(crate) kept: Kept,
-}
 
 // Types an expression that is read in the instance with this number, and makes its flat form.
 #[tactic(auto, using(crate::proofs::BuildingLaws::known_always))]
@@ -80,21 +54,6 @@ fn expression<'s, 'a, 'n>(
         instance: i,
     };
     typed(alloc, &names, e, Permissions::of(position), false)
-}
-
-fn push(
-    forms: &mut Vec<FlatFormula>,
-    instance: u32,
-    role: Role,
-    body: FlatExpr,
-) -> Result<(), NoMemory>
-    ensures { OnOk result (map form_plain forms.new.items ≡ map form_plain forms.old.items ++ record { instance = instance; role = role; body = plain_flat body } ∷ []) }
-{
-    Ok(forms.push(FlatFormula {
-        instance,
-        role,
-        body,
-    })?)
 }
 
 // The body that is this item: what is kept of it, or else what it is typed as here.
@@ -131,31 +90,14 @@ fn add_body<'s, 'a, 'n>(
     requires body { IsBodyAt (instances_in context.now) (length built.old.types.items) reader (plain e.now) }
     ensures checks { Settles result (typing (types_in true (instances_in context.now) reader) in_body (plain e.now)).checks }
     ensures adds { OnOk result (BodyAdds (instances_in context.now) i reader (plain e.now) built.old built.new) }
+    ensures found { OnOk result (Finds (expression_paths (instances_in context.now) reader (plain e.now)) built.old built.new) }
 {
     let item = built.types.len();
     let x = body_typed(alloc, context, &mut built.kept, item, reader, e)?;
+    built.all_found = built.all_found & x.ty.is_some();
     let role = Role::Body(item as u32);
     built.types.push(x.ty)?;
     push(&mut built.forms, i, role, x.expr)?;
-    Ok(())
-}
-
-fn is_path(e: &Expr) -> bool
-    ensures { result ≡ is_path (plain e.now) }
-{
-    matches!(e.shape, Shape::Name(_))
-}
-
-// Checks a body for itself.
-fn check_body<'s, 'a, 'n>(
-    alloc: Global,
-    context: &Context<'s, 'a, 'n>,
-    reader: usize,
-    e: &Expr,
-) -> Result<(), NamesEnd>
-    ensures { Settles result (typing (types_in true (instances_in context.now) reader) in_body (plain e.now)).checks }
-{
-    expression(alloc, context, reader, e, Position::Define)?;
     Ok(())
 }
 
@@ -169,11 +111,10 @@ fn check_actual<'s, 'a, 'n>(
 ) -> Result<(), NamesEnd>
     ensures { Settles result (actual_typing (types_in true (instances_in context.now) parent) (plain e.now)) }
 {
-    if is_path(e) {
-        Ok(())
-    } else {
-        check_body(alloc, context, parent, e)
+    if !is_path(e) {
+        expression(alloc, context, parent, e, Position::Define)?;
     }
+    Ok(())
 }
 
 // Adds an actual. One that is a path is no item.
@@ -189,18 +130,14 @@ fn add_actual<'s, 'a, 'n>(
     requires ready { IsReady (instances_in context.now) (own_items i parent (plain e.now)) built.old }
     ensures checks { Settles result (actual_typing (types_in true (instances_in context.now) parent) (plain e.now)) }
     ensures adds { OnOk result (Adds (instances_in context.now) (own_items i parent (plain e.now)) [] built.old built.new) }
+    ensures found { OnOk result (Finds (expression_paths (instances_in context.now) parent (plain e.now)) built.old built.new) }
 {
     if is_path(e) {
+        built.all_found = built.all_found & is_found(context, parent, e);
         Ok(())
     } else {
         add_body(alloc, context, built, i, parent, e)
     }
-}
-
-fn is_instance(domain: &Domain) -> bool
-    ensures { result ≡ domain_declares_instance (plain_domain domain.now) }
-{
-    matches!(domain, Domain::Instance(_, _))
 }
 
 // Adds a variable, if it is no instance, after the checks of its declared type.
@@ -208,6 +145,7 @@ fn is_instance(domain: &Domain) -> bool
 fn add_item(built: &mut Building, item: &Item) -> Result<(), NamesEnd>
     ensures checks { Settles result (item_typing (plain_item item.now)) }
     ensures adds { (t : List Specified) (i : ℕ) (kind : VarKind) → OnOk result (Adds t (variable_item i kind (plain_item item.now)) [] built.old built.new) }
+    ensures found { OnOk result (Finds [] built.old built.new) }
 {
     match declared(&item.domain) {
         Ok(ty) => {
@@ -226,6 +164,7 @@ fn add_item(built: &mut Building, item: &Item) -> Result<(), NamesEnd>
 fn add_items(built: &mut Building, items: &Items) -> Result<(), NamesEnd>
     ensures checks { Settles result (flat_map item_typing (map plain_item items.now)) }
     ensures adds { (t : List Specified) (i : ℕ) (kind : VarKind) → OnOk result (Adds t (flat_map (variable_item i kind) (map plain_item items.now)) [] built.old built.new) }
+    ensures found { OnOk result (Finds [] built.old built.new) }
 {
     for item in items {
         add_item(built, item)?;
@@ -243,20 +182,12 @@ fn add_definitions<'s, 'a, 'n>(
     requires ready { IsReady (instances_in context.now) (map (definition_item i) (map plain_definition definitions.now)) built.old }
     ensures checks { Settles result (flat_map (definition_typing (types_in true (instances_in context.now) i)) (map plain_definition definitions.now)) }
     ensures adds { OnOk result (Adds (instances_in context.now) (map (definition_item i) (map plain_definition definitions.now)) [] built.old built.new) }
+    ensures found { OnOk result (Finds (flat_map (λ d. expression_paths (instances_in context.now) i d.body) (map plain_definition definitions.now)) built.old built.new) }
 {
     for definition in definitions {
         add_body(alloc, context, built, i, i as usize, &definition.body)?;
     }
     Ok(())
-}
-
-fn is_truth(t: Option<Ty>) -> bool
-    ensures { result ≡ on_type (option_map seen t) is_truth_type }
-{
-    match t {
-        None => true,
-        Some(t) => t.is_truth(),
-    }
 }
 
 // Adds a section's formula, which must be a truth value.
@@ -271,8 +202,10 @@ fn add_formula<'s, 'a, 'n>(
 ) -> Result<(), NamesEnd>
     ensures checks { Settles result (formula_typing (types_in true (instances_in context.now) i) (position_seen position) (plain e.now)) }
     ensures adds { OnOk result (Adds (instances_in context.now) [] (section_piece (record { instance = i; role = role; body = flat_in (instances_in context.now) i (position_seen position) (plain e.now) }) ∷ []) built.old built.new) }
+    ensures found { OnOk result (Finds (expression_paths (instances_in context.now) i (plain e.now)) built.old built.new) }
 {
     let x = expression(alloc, context, i as usize, e, position)?;
+    built.all_found = built.all_found & x.ty.is_some();
     if !is_truth(x.ty) {
         return Err(NamesEnd::Bad(Refusal {
             kind: smv::TYPE_CLASH,
@@ -281,50 +214,6 @@ fn add_formula<'s, 'a, 'n>(
     }
     push(&mut built.rest, i, role, x.expr)?;
     Ok(())
-}
-
-fn position_of(when: When) -> Position
-    ensures { position_seen result ≡ in_assignment when }
-{
-    match when {
-        When::Always => Position::AssignNow,
-        When::First => Position::AssignFirst,
-        When::Following => Position::AssignFollowing,
-    }
-}
-
-// Whether both types are the same, or one is missing.
-fn are_same(t: Option<Ty>, u: Option<Ty>) -> bool
-    ensures { result ≡ on_types (option_map seen t) (option_map seen u) type_same }
-{
-    match t {
-        None => true,
-        Some(t) => match u {
-            None => true,
-            Some(u) => t.is_same(u),
-        },
-    }
-}
-
-fn number(leaf: Leaf) -> u32
-    ensures { result ≡ number_or_first (leaf_plain leaf) }
-{
-    match leaf {
-        Leaf::Item(k) => k,
-        Leaf::Symbol(_) => 0,
-        Leaf::Nothing => 0,
-    }
-}
-
-// The item that is assigned, where the target can be.
-fn assigned_item(when: When, target: &Target, item: u32) -> Option<u32>
-    ensures { (ts : List PartOf) → result ≡ (if is_assignable when (found_plain (map instance_plain ts) target.now) then Some item else None) }
-{
-    if is_assignable(when, target) {
-        Some(item)
-    } else {
-        None
-    }
 }
 
 // Adds an assignment, whose value must fit its target.
@@ -337,12 +226,14 @@ fn add_assignment<'s, 'a, 'n>(
 ) -> Result<(), NamesEnd>
     ensures checks { Settles result (assigned_typing (types_in true (instances_in context.now) i) (plain_assignment assignment.now)) }
     ensures adds { OnOk result (Adds (instances_in context.now) [] (assignment_piece (instances_in context.now) i (plain_assignment assignment.now) ∷ []) built.old built.new) }
+    ensures found { OnOk result (Finds (assignment_paths (instances_in context.now) i (plain_assignment assignment.now)) built.old built.new) }
 {
     let path = &assignment.target;
     let found = context.model.table.target(i as usize, path);
     let target = translated(alloc, context.model, context.entries, found)?;
     let position = position_of(assignment.when);
     let value = expression(alloc, context, i as usize, &assignment.body, position)?;
+    built.all_found = built.all_found & is_something(found) & value.ty.is_some();
     if !are_same(target.named.ty, value.ty) {
         return Err(NamesEnd::Bad(Refusal {
             kind: smv::TYPE_CLASH,
@@ -369,6 +260,7 @@ fn add_assignments<'s, 'a, 'n>(
 ) -> Result<(), NamesEnd>
     ensures checks { Settles result (flat_map (assigned_typing (types_in true (instances_in context.now) i)) (map plain_assignment assignments.now)) }
     ensures adds { OnOk result (Adds (instances_in context.now) [] (map (assignment_piece (instances_in context.now) i) (map plain_assignment assignments.now)) built.old built.new) }
+    ensures found { OnOk result (Finds (flat_map (assignment_paths (instances_in context.now) i) (map plain_assignment assignments.now)) built.old built.new) }
 {
     for assignment in assignments {
         add_assignment(alloc, context, built, i, assignment)?;
@@ -386,6 +278,7 @@ fn add_element<'s, 'a, 'n>(
     requires ready { IsReady (instances_in context.now) (element_items i (plain_element element.now)) built.old }
     ensures checks { Settles result (element_typing (types_in true (instances_in context.now) i) (plain_element element.now)) }
     ensures adds { OnOk result (Adds (instances_in context.now) (element_items i (plain_element element.now)) (element_pieces (instances_in context.now) i (plain_element element.now)) built.old built.new) }
+    ensures found { OnOk result (Finds (paths_here (instances_in context.now) i (plain_element element.now)) built.old built.new) }
 {
     match element {
         Element::Vars(_, items) => add_items(built, items),
@@ -411,6 +304,7 @@ fn add_elements<'s, 'a, 'n>(
     requires ready { IsReady (instances_in context.now) (flat_map (element_items i) (map plain_element elements.now)) built.old }
     ensures checks { Settles result (flat_map (element_typing (types_in true (instances_in context.now) i)) (map plain_element elements.now)) }
     ensures adds { OnOk result (Adds (instances_in context.now) (flat_map (element_items i) (map plain_element elements.now)) (flat_map (element_pieces (instances_in context.now) i) (map plain_element elements.now)) built.old built.new) }
+    ensures found { OnOk result (Finds (flat_map (paths_here (instances_in context.now) i) (map plain_element elements.now)) built.old built.new) }
 {
     for element in elements {
         add_element(alloc, context, built, i, element)?;
@@ -430,6 +324,7 @@ fn add_own<'s, 'a, 'n>(
     requires ready { IsReady (instances_in context.now) (flat_map (own_items i parent) (map plain actuals.now)) built.old }
     ensures checks { Settles result (flat_map (actual_typing (types_in true (instances_in context.now) parent)) (map plain actuals.now)) }
     ensures adds { OnOk result (Adds (instances_in context.now) (flat_map (own_items i parent) (map plain actuals.now)) [] built.old built.new) }
+    ensures found { OnOk result (Finds (flat_map (expression_paths (instances_in context.now) parent) (map plain actuals.now)) built.old built.new) }
 {
     for actual in actuals {
         add_actual(alloc, context, built, i, parent, actual)?;
@@ -466,11 +361,14 @@ fn add_actuals<'s, 'a, 'n>(
     requires ready { IsReady (instances_in context.now) (actual_items i parent parameters.now (trees_of (map plain actuals.now))) built.old }
     ensures checks { Settles result (actuals_typing (types_in true (instances_in context.now) parent) (trees_of (map plain actuals.now))) }
     ensures adds { OnOk result (Adds (instances_in context.now) (actual_items i parent parameters.now (trees_of (map plain actuals.now))) [] built.old built.new) }
+    ensures found { OnOk result (Finds (all_paths (instances_in context.now) parent (trees_of (map plain actuals.now))) built.old built.new) }
 {
     if parameters.len() < actuals.len() {
         let (own, others) = actuals.split_at(parameters.len());
         add_own(alloc, context, built, i, parent, own)?;
-        check_others(alloc, context, parent, others)
+        check_others(alloc, context, parent, others)?;
+        built.all_found = false;
+        Ok(())
     } else {
         add_own(alloc, context, built, i, parent, actuals)
     }
@@ -489,6 +387,7 @@ pub(crate) fn add_instance<'s, 'a, 'n>(
     requires none { built.old.rest.items ≡ [] }
     ensures checks { Settles result (type_checks (names_in (instances_in context.now)) i (instance_plain at.now)) }
     ensures adds { OnOk result (InstanceAdds (instances_in context.now) i (instance_plain at.now) built.old built.new) }
+    ensures found { OnOk result (Finds (path_checks (found_in (instances_in context.now)) i (instance_plain at.now)) built.old built.new) }
 {
     let parent = at.parent.unwrap_or(0);
     let module = at.module;

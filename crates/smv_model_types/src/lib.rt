@@ -4,12 +4,14 @@
 
 mod bodies;
 mod building;
+mod built;
 mod context;
 mod domains;
 mod kept;
 mod names;
+mod parts;
 mod types;
 mod variables;
 
-pub use building::Built;
+pub use built::Built;
 pub use types::types_checked;

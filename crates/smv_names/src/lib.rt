@@ -19,5 +19,5 @@ pub use declarations::declarations_checked;
 pub use ends::NamesEnd;
 pub use invariants::invariants_checked;
 pub use module_names::modules_checked;
-pub use paths::paths_checked;
+pub use paths::{is_something, paths_checked};
 pub use sizes::{SizedModel, sizes_checked};

@@ -17,7 +17,8 @@ use std::alloc::Global;
 use text_core::kinds::smv;
 use text_core::{NoMemory, Refusal};
 
-fn is_something(target: Target) -> bool
+/// Returns whether a path with this target leads to something.
+pub fn is_something(target: Target) -> bool
     ensures { (t : List Specified) → result ≡ is_something (found_plain t target.entry) }
 {
     match target {

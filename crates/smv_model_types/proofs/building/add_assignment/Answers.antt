@@ -1,5 +1,6 @@
-use Rattle.std.proofs.Common.{rules, ◌≡◌, true, false, Option, Some, Ok, [], ◌∷◌, map, option_map, ap, sym, subst, ◌∙◌}
-use Rattle.smv_text.specs.View.{plain}
+use Rattle.std.proofs.Math.Bool.{and_assoc}
+use Rattle.std.proofs.Common.{rules, ◌≡◌, ◌&&◌, true, false, Option, Some, Ok, [], ◌∷◌, map, option_map, ap, sym, subst, ◌∙◌}
+use Rattle.smv_text.specs.View.{plain, plain_assignment}
 use Rattle.smv_meaning.specs.Types.{ExprType, type_same}
 use Rattle.smv_meaning.specs.Checks.{check, typing, first_failing, on_types, IsBad, Named, Position}
 use Rattle.smv_meaning.specs.Phases.{place_of, in_assignment}
@@ -9,7 +10,13 @@ use Rattle.smv_instances.specs.View.{instance_plain}
 use Rattle.smv_intervals.specs.View.{seen}
 use Rattle.smv_types.specs.Outcome.{outcome}
 use Rattle.smv_model_types.specs.Entries.{entries_seen, found_named}
-use Rattle.smv_model_types.proofs.BuildingLaws.{fit_fails, fit_passes}
+use Rattle.smv_types.specs.View.{position_seen}
+use Rattle.smv_meaning.specs.Phases.{is_something}
+use Rattle.smv_meaning.specs.laws.Booleans.{both_true}
+use Rattle.smv_model_types.specs.Building.{assignment_paths, expression_paths}
+use Rattle.smv_model_types.proofs.BuildingLaws.{fit_fails, fit_passes, passed}
+use Rattle.smv_model_types.proofs.Finding.{finds_where, target_found}
+use Rattle.smv_model_types.proofs.TypedPaths.{stored_found}
 use Rattle.smv_model_types.proofs.building.add_assignment.Goals as goal
 
 pub returns-in_err-value-clause-checks : goal.returns-in_err-value-clause-checks
@@ -45,3 +52,16 @@ returns-clause-checks c =
     let told = subst (λ (at : Position). outcome (typing names at body) ≡ Ok o) c.position_of-position.ensures c.in_ok-value.ensures.0 in
     fit_passes a (place_of body) o (λ (t : Option ExprType). on_types target t type_same) told
     (ap (λ t. on_types t o type_same) (sym (ap (λ (n : Named). n.type) (c.in_ok-target.ensures.named ∙ ap (found_named entries) c.target-found.ensures.found ∙ c.args.context.now.right c.args.i c.args.assignment.now.target))) ∙ sym c.are_same.ensures ∙ c.if-not-are_same.false)
+
+pub returns-clause-found : goal.returns-clause-found
+returns-clause-found c =
+    let t = map instance_plain c.args.context.now.model.now.table.now in
+    let i = c.args.i in
+    let a = plain_assignment c.args.assignment.now in
+    let at = position_seen c.position_of-position.result in
+    let type = (passed (typing (types_in true t i) at a.body) (option_map seen c.in_ok-value.value.ty) c.in_ok-value.ensures.0).1 in
+    finds_where (assignment_paths t i a) (c.is_something.result && c.is_some.result) c.args.built.now.all_found _ (and_assoc c.args.built.now.all_found c.is_something.result c.is_some.result)
+    (λ h.
+    let b = both_true c.is_something.result c.is_some.result h in
+    target_found t i a.target (expression_paths t i a.body) (sym (ap is_something c.target-found.ensures.found) ∙ sym (c.is_something.ensures t) ∙ b.0)
+    (stored_found t i at a.body c.in_ok-value.value.ty type (sym c.is_some.ensures ∙ b.1)))

@@ -1,4 +1,4 @@
-use Rattle.std.proofs.Common.{rules, true, false, Option, Some, [], ◌∷◌, map, option_map, ap, sym, ◌∙◌}
+use Rattle.std.proofs.Common.{rules, refl, true, false, Option, Some, [], ◌∷◌, map, option_map, ap, sym, ◌∙◌}
 use Rattle.smv_text.specs.View.{plain}
 use Rattle.smv_meaning.specs.Types.{ExprType, is_truth_type}
 use Rattle.smv_meaning.specs.Checks.{check, typing, on_type}
@@ -8,7 +8,10 @@ use Rattle.smv_meaning.specs.laws.Composing.{ends}
 use Rattle.smv_instances.specs.View.{instance_plain}
 use Rattle.smv_intervals.specs.View.{seen}
 use Rattle.smv_types.specs.View.{position_seen}
-use Rattle.smv_model_types.proofs.BuildingLaws.{fit_fails, fit_passes}
+use Rattle.smv_model_types.specs.Building.{expression_paths}
+use Rattle.smv_model_types.proofs.BuildingLaws.{fit_fails, fit_passes, passed}
+use Rattle.smv_model_types.proofs.Finding.{finds_where}
+use Rattle.smv_model_types.proofs.TypedPaths.{stored_found}
 use Rattle.smv_model_types.proofs.building.add_formula.Goals as goal
 
 pub returns-in_err-x-clause-checks : goal.returns-in_err-x-clause-checks
@@ -30,3 +33,12 @@ returns-clause-checks c =
     let e = plain c.args.e.now in
     let a = typing (types_in true (map instance_plain c.args.context.now.model.now.table.now) c.args.i) (position_seen c.args.position) e in
     fit_passes a (place_of e) (option_map seen c.in_ok-x.x.ty) (λ (t : Option ExprType). on_type t is_truth_type) c.in_ok-x.ensures.0 (sym c.is_truth.ensures ∙ c.if-not-is_truth.false)
+
+pub returns-clause-found : goal.returns-clause-found
+returns-clause-found c =
+    let t = map instance_plain c.args.context.now.model.now.table.now in
+    let e = plain c.args.e.now in
+    let at = position_seen c.args.position in
+    let type = (passed (typing (types_in true t c.args.i) at e) (option_map seen c.in_ok-x.x.ty) c.in_ok-x.ensures.0).1 in
+    finds_where (expression_paths t c.args.i e) c.is_some.result c.args.built.now.all_found _ refl
+    (λ h. stored_found t c.args.i at e c.in_ok-x.x.ty type (sym c.is_some.ensures ∙ h))

@@ -7,6 +7,7 @@ use Rattle.smv_instances.specs.View.{instance_plain}
 use Rattle.smv_items.specs.FlatItems.{actual_items, element_items}
 use Rattle.smv_model_types.specs.Building.{Adds, IsReady}
 use Rattle.smv_model_types.proofs.BuildingLaws.{instance_added}
+use Rattle.smv_model_types.proofs.Finding.{instance_found}
 use Rattle.smv_model_types.proofs.Ready.{ready_first, ready_behind}
 use Rattle.smv_model_types.proofs.building.add_instance.Goals as goal
 
@@ -38,3 +39,8 @@ pub returns-clause-adds : goal.returns-clause-adds
 returns-clause-adds c =
     instance_added (map instance_plain c.args.context.now.model.now.table.now) c.args.i c.unwrap_or-parent.result (instance_plain c.args.at.now) c.args.built.now c.add_actuals.new.built c.add_elements.new.built _
     c.unwrap_or-parent.ensures c.requires.none c.in_ok-add_actuals.ensures.adds c.in_ok-add_elements.ensures.adds c.in_ok-append.ensures.items c.in_ok-append.ensures.other_items refl refl refl
+
+pub returns-clause-found : goal.returns-clause-found
+returns-clause-found c =
+    instance_found (map instance_plain c.args.context.now.model.now.table.now) c.args.i c.unwrap_or-parent.result (instance_plain c.args.at.now) c.args.built.now c.add_actuals.new.built c.add_elements.new.built
+    c.unwrap_or-parent.ensures c.in_ok-add_actuals.ensures.found c.in_ok-add_elements.ensures.found

@@ -11,4 +11,4 @@ use Rattle.smv_model_types.proofs.building.add_items.Given as goal
 abbrev pub invariant-loop-item : goal.invariant-loop-item
 invariant-loop-item l =
     (t : List Instance) (i : ℕ) (kind : VarKind)
-    → Walks t item_typing (variable_item i kind) adds_none (map plain_item l.items) l.initial.built (map plain_item (iter_rest l.item-iterator)) l.built
+    → Walks t item_typing (variable_item i kind) adds_none adds_none (map plain_item l.items) l.initial.built (map plain_item (iter_rest l.item-iterator)) l.built
