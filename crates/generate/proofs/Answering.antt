@@ -11,7 +11,7 @@ use Rattle.btor_witness.specs.declared.witness.Witness.{Witness}
 use Rattle.btor_witness.specs.Judging.{judged_btor}
 use Rattle.smv_text.specs.Tree.{PlainSource}
 use Rattle.smv_meaning.specs.Instances.{weight_of}
-use Rattle.smv_flatten.specs.FlatModel.{FlatModel}
+use Rattle.smv_flatten.specs.FlatModel.{FlatModel, HasForm}
 use Rattle.btor_witness.specs.Answer.{IsRefused}
 use Rattle.btor_witness.specs.Texts.{SpellsWitness}
 use Rattle.witness_lift.specs.Lifting.{lines_in}
@@ -22,7 +22,6 @@ use Rattle.smv_models.specs.Models.{IsCheckRefusal, IsFormIn}
 use Rattle.generate.specs.Made.{lines_text, made_model, made_witness}
 use Rattle.generate.specs.Generating.{IsGenerated, IsSummary, OfLines, OfModels, OfWitness, summary_lines, summary_text, verdict_for}
 use Rattle.generate.proofs.Forms.{lines_are}
-use Rattle.witness_lift.specs.Breaking.{HasForm}
 
 -- the summary of the lines of a model's flat form is that of the model
 pub summarised : {E : Type 0} (n : ℕ) (source : PlainSource) (lines nodes : List Line) (w : Witness) (weight frames : ℕ) (result : Result (List ℕ) E)

@@ -11,7 +11,7 @@ use Rattle.smv_meaning.specs.declared.value.Run.{Run}
 use Rattle.smv_meaning.specs.Runs.{IsRun, LastBreaks}
 use Rattle.smv_meaning.specs.Values.{given}
 use Rattle.smv_flat.specs.FlatForms.{PlainFlat, flat_smv}
-use Rattle.smv_flatten.specs.FlatModel.{FlatModel, flat_plain}
+use Rattle.smv_flatten.specs.FlatModel.{FlatModel, flat_plain, IsFormOf}
 use Rattle.smv_script.specs.Script.{coding_of, script_of}
 use Rattle.smv_script_laws.specs.Decoding.{decoded_state, decoded_steps, run_of}
 use Rattle.smv_script_laws.specs.RunLaws.{decoded_run}
@@ -21,7 +21,7 @@ use Rattle.moxi_terms.specs.Value.{Values}
 use Rattle.moxi_flat.specs.FlatSystem.{PlainFlatSystem, flat_of}
 use Rattle.moxi_lines.specs.Lines.{lines_of}
 use Rattle.moxi_lift.specs.Lifted.{lifted}
-use Rattle.witness_lift.specs.Breaking.{BreaksLast, IsFormOf}
+use Rattle.witness_lift.specs.Breaking.{BreaksLast}
 use Rattle.witness_lift.specs.Lifting.{lifted_run, lines_in, run_in, system_in}
 use Rattle.generate.specs.Generating.{run_for}
 use Rattle.generate.specs.Laws.{InputsAreVariables}

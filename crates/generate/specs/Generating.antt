@@ -16,8 +16,7 @@ use Rattle.smv_meaning.specs.Instances.{weight_of}
 use Rattle.smv_meaning.specs.Runs.{judged_smv}
 use Rattle.smv_meaning.specs.Values.{given}
 use Rattle.smv_script_laws.specs.RunLaws.{decoded_run}
-use Rattle.smv_flatten.specs.FlatModel.{FlatModel}
-use Rattle.witness_lift.specs.Breaking.{IsFormOf}
+use Rattle.smv_flatten.specs.FlatModel.{FlatModel, IsFormOf}
 use Rattle.witness_lift.specs.LineLaws.{model_lines, model_system}
 use Rattle.moxi_lift.specs.Lifted.{lifted}
 use Rattle.command_core.specs.declared.answer.Answer.{Answer}

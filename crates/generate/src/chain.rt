@@ -1,28 +1,47 @@
 // The answer for a model with its lines.
-ghost use Rattle.std.specs.Prelude.{◌≡◌, ◌≤◌, length, IfOk, IfErr};
+ghost use Rattle.std.specs.Prelude.{◌≡◌, ◌≤◌, length, IfOk, IfErr, ◌<◌, ◌^◌, map};
 ghost use Rattle.text_core.specs.declared.verdict.Verdict.TheVariants.{Yes};
 ghost use Rattle.btor_witness.specs.Answer.{IsRefused};
 ghost use Rattle.btor_witness.specs.Judging.{judged_btor};
 ghost use Rattle.btor_witness.specs.Printing.{IsWitness};
 ghost use Rattle.btor_witness.specs.Sizes.{most_frames, sizes_of};
 ghost use Rattle.btor_witness.specs.Texts.{SpellsWitness};
-ghost use Rattle.witness_lift.specs.Breaking.{BreaksLast, HasForm};
+ghost use Rattle.smv_flatten.specs.FlatModel.{HasForm, flat_plain, IsFlatOf};
+ghost use Rattle.witness_lift.specs.Breaking.{BreaksLast};
 ghost use Rattle.witness_lift.specs.Lifting.{lifted_run, lines_in};
 ghost use Rattle.generate.specs.Made.{made_witness};
 ghost use Rattle.command_core.specs.declared.answer.Stop.TheVariants as Stop;
 ghost use Rattle.generate.specs.Generating.{IsSummary, OfLines, OfModels, OfWitness};
+ghost use Rattle.smv_text.specs.Tree.{PlainSource};
+ghost use Rattle.smv_meaning.specs.Runs.{judged_smv};
+ghost use Rattle.smv_meaning.specs.Values.{given};
+ghost use Rattle.smv_judge.specs.Models.{IsListedRun};
+ghost use Rattle.generate.specs.Verdicts.{is_yes};
 
-use crate::judged::says_yes;
 use crate::laws::inputs_are_variables;
-use crate::summary::summary_of;
-use crate::witness::made_witness;
+use crate::texts::{made_witness, summary_of};
 use btor_witness::{Witness, read_witness};
 use command_core::{Answer, Output, Stop};
+use smv_flatten::Flat;
+use smv_judge::judge_listed;
 use smv_laws::yes_is_run;
 use smv_meaning::Run;
 use std::alloc::Global;
-use text_core::{End, NoMemory, Text};
+use text_core::{End, NoMemory, Text, Verdict};
 use witness_lift::{LiftEnd, SmvChain, lift_smv};
+
+// Whether the judge accepts a run for invariant j, for each model with this flat form.
+fn says_yes(alloc: Global, flat: &Flat, j: u32, run: &Run) -> Result<bool, NoMemory>
+    requires model { (source : PlainSource) × IsFlatOf source (flat_plain flat.now) }
+    requires few { length run.now.states < 2 ^ 32 }
+    requires listed { IsListedRun (flat_plain flat.now) run.now }
+    ensures { IfOk result (λ yes. (source : PlainSource) → IsFlatOf source (flat_plain flat.now) → yes ≡ is_yes (judged_smv source j (map given run.now.states) (map given run.now.labels))) }
+{
+    match judge_listed(alloc, flat, j, run)? {
+        Verdict::Yes => Ok(true),
+        Verdict::No(_, _) => Ok(false),
+    }
+}
 
 // The generated witness of n cells, read for the chain's lines. The witness's text is freed before the return.
 fn witness_of(alloc: Global, n: u32, chain: &SmvChain) -> Result<Witness, End>

@@ -2,14 +2,10 @@
 #![tactic(auto)]
 
 mod chain;
-mod judged;
 mod laws;
 mod made;
-mod model;
-mod summary;
-mod witness;
+mod texts;
 
 pub use laws::{inputs_are_variables, one_generated};
 pub use made::generate;
-pub use model::made_model;
-pub use witness::made_witness;
+pub use texts::{made_model, made_witness};

@@ -6,9 +6,9 @@ ghost use Rattle.command_core.specs.declared.answer.Stop.TheVariants as Stop;
 ghost use Rattle.generate.specs.Generating.{IsGenerated};
 
 use crate::chain::chain_answer;
-use crate::model::made_model;
+use crate::texts::made_model;
 use command_core::{Answer, Stop};
-use smv_models::chain_in;
+use smv_models::flat_in;
 use std::alloc::Global;
 use text_core::End;
 use witness_lift::SmvChain;
@@ -21,7 +21,8 @@ fn chain_of(alloc: Global, n: u32) -> Result<SmvChain, End>
     ensures refused { IfErr result (IsModelEnd (made_model n) 0) }
 {
     let text = made_model(alloc, n)?;
-    chain_in(alloc, text.bytes(), 0)
+    let flat = flat_in(alloc, text.bytes(), 0)?;
+    Ok(SmvChain::over(alloc, flat)?)
 }
 
 /// Generates the model of `n` cells and its witness, `n` from 1 to 1,000, and takes them through all steps.

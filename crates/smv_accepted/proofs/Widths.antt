@@ -20,7 +20,7 @@ use Rattle.smv_meaning.specs.Naming.{in_body, named_found, naming, typed_variabl
 use Rattle.smv_meaning.specs.Phases.{in_state, in_step, in_assignment, over_instances}
 use Rattle.smv_meaning.specs.Settled.{types_in}
 use Rattle.smv_meaning.specs.laws.Booleans.{both_true}
-use Rattle.smv_width.specs.FlatWidth.{interval_width, integers_width, node_width, operand_width, arguments_width}
+use Rattle.smv_flat.specs.FlatWidth.{interval_width, integers_width, node_width, operand_width, arguments_width}
 use Rattle.smv_width.specs.SourceWidth.{expression_width, implied_width, fronts_width, branch_width, part_width, front_width, greatest, element_widths, actual_width, actual_widths, instance_widths}
 use Rattle.smv_width.proofs.WidthLaw.{interval_width_is_least}
 use Rattle.smv_width.proofs.ModelWidths.{same_model_width}

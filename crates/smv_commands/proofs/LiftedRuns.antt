@@ -5,7 +5,7 @@ use Rattle.text_core.specs.declared.verdict.Verdict.TheVariants.{Yes}
 use Rattle.smv_text.specs.Tree.{PlainSource}
 use Rattle.smv_meaning.specs.declared.value.Given.{Given}
 use Rattle.smv_flat.specs.FlatForms.{flat_smv}
-use Rattle.smv_width.specs.FlatWidth.{width_of}
+use Rattle.smv_flat.specs.FlatWidth.{width_of}
 use Rattle.smv_script.specs.Script.{coding_of}
 use Rattle.smv_script_laws.specs.Decoding.{decoded_state, decoded_steps}
 use Rattle.btor_tree.specs.declared.lines.Line.{Line}

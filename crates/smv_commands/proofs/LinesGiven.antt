@@ -3,8 +3,7 @@ use Rattle.std.proofs.Common.{◌≡◌, ℕ, List, Option, Some, Result, Ok, Er
 use Rattle.std.specs.Prelude.{IfOk}
 use Rattle.text_core.specs.Outside.{Files, file_at, grown}
 use Rattle.smv_text.specs.Tree.{PlainSource}
-use Rattle.smv_flatten.specs.FlatModel.{FlatModel}
-use Rattle.witness_lift.specs.Breaking.{IsFormOf}
+use Rattle.smv_flatten.specs.FlatModel.{FlatModel, IsFormOf}
 use Rattle.command_core.specs.declared.answer.Answer.{Answer}
 use Rattle.command_core.specs.declared.answer.Answer.TheVariants.{Done}
 use Rattle.command_core.specs.declared.answer.Output.TheVariants.{Text}

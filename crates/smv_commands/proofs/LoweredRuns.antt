@@ -9,7 +9,7 @@ use Rattle.text_core.specs.declared.verdict.Verdict.{Verdict}
 use Rattle.text_core.specs.declared.verdict.Verdict.TheVariants.{Yes, No}
 use Rattle.smv_text.specs.Tree.{PlainSource}
 use Rattle.smv_flat.specs.FlatForms.{PlainFlat, flat_smv}
-use Rattle.smv_flatten.specs.FlatModel.{FlatModel}
+use Rattle.smv_flatten.specs.FlatModel.{FlatModel, IsFormOf}
 use Rattle.smv_meaning.specs.declared.value.Run.{Run}
 use Rattle.smv_script.specs.Script.{script_of}
 use Rattle.smv_trace_text.specs.Lines.{lines_of as lines_in_text}
@@ -17,10 +17,11 @@ use Rattle.smv_trace.specs.Reading.{begin}
 use Rattle.smv_trace.specs.Texts.{lines_read, most_bytes, trace_of}
 use Rattle.smv_trace.proofs.Sound.{stated_from}
 use Rattle.btor_tree.specs.declared.lines.Line.{Line}
+use Rattle.btor_tree.specs.Fits.{IsWellFormed}
 use Rattle.btor_tree.specs.Printing.{printed as printed_lines}
 use Rattle.btor_witness.specs.declared.witness.Witness.{Witness}
 use Rattle.btor_witness.specs.Judging.{judged_btor}
-use Rattle.btor_witness.specs.Printing.{IsWithinLimits, IsWitness, printed}
+use Rattle.btor_witness.specs.Printing.{IsWithinLimits, IsWitness, printed, rising_witness}
 use Rattle.btor_witness.specs.Sizes.{sizes_of}
 use Rattle.btor_witness.specs.Texts.{SpellsWitness}
 use Rattle.moxi_flat.specs.FlatSystem.{flat_of}
@@ -31,7 +32,6 @@ use Rattle.trace_lower.specs.declared.lower.LowerEnd.{LowerEnd}
 use Rattle.trace_lower.specs.declared.lower.LowerEnd.TheVariants as lower_end
 use Rattle.trace_lower.specs.Ends.{IsLowerEnd}
 use Rattle.trace_lower.specs.Lowered.{lowered, verdict_on}
-use Rattle.witness_lift.specs.Breaking.{IsFormOf}
 use Rattle.witness_lift.specs.Lifting.{lines_in}
 use Rattle.witness_lift.specs.LineLaws.{ModelLinesAreLaidOut, SpellsOnly, model_lines, model_system}
 use Rattle.command_core.specs.declared.answer.Answer.{Answer}
@@ -50,7 +50,6 @@ use Rattle.smv_models.proofs.Forms.{read_of}
 use Rattle.smv_commands.proofs.LiftedRuns.{own_lines}
 use Rattle.smv_commands.proofs.TraceAnswers.{one_answer_to_trace}
 use Rattle.text_core.specs.Answers.{refused}
-use Rattle.moxi_lower.proofs.Printed.{PrintedIsRead}
 
 -- files define one witness of a trace
 pub one_lowering : (files : Files) (model second : List ℕ) (j : ℕ) (a b : Answer) → IsLowering files model second j a → IsLowering files model second j b → a ≡ b
@@ -100,6 +99,10 @@ said_rejected f j run {s} {step} {k} {clause} end judged is same_step same_claus
 )
 
 -- ---- what the witness stands for
+
+-- a printed witness within the limits is read, with its statements in rising order
+abbrev pub PrintedIsRead : Type 0
+PrintedIsRead = (lines : List Line) (w : Witness) → IsWellFormed lines → IsWitness (sizes_of lines) w → IsWithinLimits lines w → SpellsWitness lines (printed lines w) (rising_witness (sizes_of lines) w)
 
 pub states_run : LoweredAreAccepted → LoweredRoundTrip → PrintedIsRead → (bytes : List ℕ) (j : ℕ) (source : PlainSource) (a : IsAcceptedModel bytes j source) → SpellsOnly (printed_lines (model_lines source)) (model_lines source) → IsLaidOut (model_system source) (model_lines source)
     → (trace : List ℕ) (run : Run) → trace_of (declared_by source) trace ≡ Ok run → verdict_on source j run ≡ Yes → StatesRun source j run (lowered_text source j run)

@@ -8,8 +8,8 @@ use Rattle.text_core.specs.declared.verdict.Verdict.TheVariants.{Yes}
 use Rattle.smv_text.specs.Tree.{PlainSource}
 use Rattle.smv_meaning.specs.declared.value.Run.{Run}
 use Rattle.smv_flat.specs.FlatForms.{PlainFlat, flat_smv}
-use Rattle.smv_width.specs.FlatWidth.{width_of}
-use Rattle.smv_flatten.specs.FlatModel.{FlatModel}
+use Rattle.smv_flat.specs.FlatWidth.{width_of}
+use Rattle.smv_flatten.specs.FlatModel.{FlatModel, IsFormOf}
 use Rattle.smv_trace_text.specs.Texts.{has_inputs}
 use Rattle.smv_script.specs.Script.{coding_of, script_of}
 use Rattle.smv_script_laws.specs.Decoding.{run_of}
@@ -41,7 +41,6 @@ use Rattle.smv_models.specs.Models.{IsCheckRefusal, IsFormIn, smv_too_long}
 use Rattle.smv_models.proofs.Checked.{not_checked, one_check_refusal}
 use Rattle.smv_models.proofs.Sources.{same_model}
 use Rattle.smv_commands.specs.Translation.{Accepts, btor_text}
-use Rattle.witness_lift.specs.Breaking.{IsFormOf}
 use Rattle.witness_lift.specs.LineLaws.{ModelLinesAreSpelled, model_lines}
 use Rattle.btor_commands.specs.Lifting.{OfLines, OfText}
 use Rattle.smv_commands.specs.SmvLift.{IsLiftedTrace, IsSmvLift, OfBytes, RunsAreLifted, lifted_run, lifted_trace, run_text, trace_in}

@@ -2,14 +2,13 @@
 use Rattle.std.proofs.Common.{◌≡◌, ℕ, ap, ◌∙◌}
 use Rattle.smv_text.specs.Tree.{PlainSource}
 use Rattle.smv_flat.specs.FlatForms.{PlainFlat, flat_smv}
-use Rattle.smv_width.specs.FlatWidth.{width_of}
+use Rattle.smv_flat.specs.FlatWidth.{width_of}
 use Rattle.smv_script.specs.Script.{script_for, script_of}
 use Rattle.btor_tree.specs.Printing.{printed}
 use Rattle.moxi_scripts.specs.Script.{PlainScript}
 use Rattle.moxi_flat.specs.FlatSystem.{flat_of}
 use Rattle.moxi_lines.specs.Lines.{lines_of}
-use Rattle.smv_flatten.specs.FlatModel.{FlatModel, flat_plain}
-use Rattle.witness_lift.specs.Breaking.{IsFormOf}
+use Rattle.smv_flatten.specs.FlatModel.{FlatModel, flat_plain, IsFormOf}
 use Rattle.witness_lift.specs.Lifting.{lines_in}
 use Rattle.smv_commands.specs.Translation.{btor_text}
 

@@ -9,14 +9,12 @@ use Rattle.text_core.specs.declared.verdict.Verdict.TheVariants.{Yes, No}
 use Rattle.text_core.specs.declared.verdict.Clause.{Clause}
 use Rattle.smv_text.specs.Tree.{PlainSource}
 use Rattle.smv_flat.specs.FlatForms.{PlainFlat}
-use Rattle.smv_flatten.specs.FlatModel.{FlatModel, flat_plain}
-use Rattle.smv_judge.specs.Models.{IsFlatOf}
+use Rattle.smv_flatten.specs.FlatModel.{FlatModel, flat_plain, IsFormOf, IsFlatOf}
 use Rattle.smv_meaning.specs.declared.value.Run.{Run}
 use Rattle.smv_numbered.specs.declared.run.NumberedRun.{NumberedRun}
 use Rattle.smv_numbered.specs.Runs.{run_in, state_at}
 use Rattle.smv_trace.specs.Answer.{declarations_of}
 use Rattle.smv_trace.specs.Texts.{trace_of}
-use Rattle.witness_lift.specs.Breaking.{IsFormOf}
 use Rattle.command_core.specs.declared.answer.Answer.{Answer}
 use Rattle.command_core.specs.declared.answer.Answer.TheVariants as answer
 use Rattle.command_core.specs.declared.answer.Output.TheVariants.{Broken}
@@ -33,7 +31,7 @@ use Rattle.smv_commands.specs.Traces.{IsAnswerToTrace, IsRunAnswer, OfBytes, OfF
 use Rattle.trace_lower.specs.Laws.{declared_by}
 use Rattle.trace_lower.specs.Lowered.{verdict_on}
 use Rattle.smv_models.proofs.Checked.{not_checked, one_check_refusal}
-use Rattle.smv_models.proofs.Forms.{flat_form}
+use Rattle.smv_flatten.proofs.Forms.{form_is_flat}
 use Rattle.smv_models.proofs.Sources.{same_model}
 
 -- ---- flat forms
@@ -113,11 +111,11 @@ abbrev IsSaid : FlatModel → ℕ → Run → Verdict → Type 0
 IsSaid f j run v = (source : PlainSource) → IsFlatOf source (flat_plain f) → v ≡ verdict_on source j run
 
 pub said_yes : (f : FlatModel) (j : ℕ) (run : Run) (n : ℕ) → IsSaid f j run Yes → n ≡ length run.states - 1 → IsRunAnswer verdict_answer f j run (answer.Done (Broken j n))
-said_yes f j run n said e = (tt, λ source form. ap (λ m. answer.Done (Broken j m)) e ∙ ap (verdict_answer source j run) (said source (flat_form source f form)))
+said_yes f j run n said e = (tt, λ source form. ap (λ m. answer.Done (Broken j m)) e ∙ ap (verdict_answer source j run) (said source (form_is_flat source f form)))
 
 -- the same of a run by the numbers of the items
 pub numbered_yes : (f : FlatModel) (j : ℕ) (run : NumberedRun) (n : ℕ) → IsSaid f j (run_in (flat_plain f).items run) Yes → n ≡ length run.ends - 1 → IsRunAnswer verdict_answer f j (run_in (flat_plain f).items run) (answer.Done (Broken j n))
 numbered_yes f j run n said e = said_yes f j (run_in (flat_plain f).items run) n said (e ∙ ap (λ k. k - 1) (sym (length-map run.ends (state_at (flat_plain f).items run.changes))))
 
 pub said_no : (f : FlatModel) (j : ℕ) (run : Run) (step : ℕ) (clause : Clause) → IsSaid f j run (No step clause) → IsRunAnswer verdict_answer f j run (answer.No step clause)
-said_no f j run step clause said = (tt, λ source form. ap (verdict_answer source j run) (said source (flat_form source f form)))
+said_no f j run step clause said = (tt, λ source form. ap (verdict_answer source j run) (said source (form_is_flat source f form)))

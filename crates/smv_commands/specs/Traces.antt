@@ -7,9 +7,8 @@ use Rattle.text_core.specs.Outside.{Files}
 use Rattle.text_core.specs.Places.{start}
 use Rattle.smv_text.specs.Tree.{PlainSource}
 use Rattle.smv_meaning.specs.declared.value.Run.{Run}
-use Rattle.smv_flatten.specs.FlatModel.{FlatModel}
+use Rattle.smv_flatten.specs.FlatModel.{FlatModel, IsFormOf}
 use Rattle.smv_trace.specs.Texts.{trace_of}
-use Rattle.witness_lift.specs.Breaking.{IsFormOf}
 use Rattle.trace_lower.specs.Laws.{declared_by}
 use Rattle.trace_lower.specs.Lowered.{verdict_on}
 use Rattle.command_core.specs.declared.answer.Answer.{Answer}

@@ -1,4 +1,4 @@
-// From an SMV model to its BTOR2 text.
+// From an SMV model to its BTOR2 text and to its MoXI script.
 ghost use Rattle.std.specs.Prelude.{◌≡◌, ◌≤◌, [], ◌∷◌, length, IfOk, IfErr, IsErrAnd};
 ghost use Rattle.text_core.specs.Outside.{HasNewFault};
 ghost use Rattle.text_core.specs.declared.end.End.TheVariants as End;
@@ -7,21 +7,38 @@ ghost use Rattle.command_core.specs.Keeping.{KeepsShelf};
 ghost use Rattle.command_core.specs.laws.Texts.{text_says};
 ghost use Rattle.command_core.specs.Reading.{StopsUnread, StopsWith};
 ghost use Rattle.smv_text.specs.Tree.{PlainSource};
-ghost use Rattle.witness_lift.specs.Breaking.{IsFormOf};
+ghost use Rattle.smv_flatten.specs.FlatModel.{IsFormOf, flat_plain};
 ghost use Rattle.smv_models.specs.Limits.{most_smv_bytes};
-ghost use Rattle.smv_models.specs.Models.{IsCheckRefusal, IsModelEnd, smv_too_long};
-ghost use Rattle.smv_commands.specs.Translation.{IsBtorText, IsTranslation, OfBytes, TranslationsAreCorrect, btor_text};
+ghost use Rattle.smv_models.specs.Models.{IsCheckRefusal, IsFormIn, IsModelEnd, smv_too_long};
+ghost use Rattle.smv_commands.specs.Translation.{IsBtorText, IsTranslation, OfBytes, btor_text};
+ghost use Rattle.smv_script.specs.Script.{script_of};
+ghost use Rattle.moxi_term_print.specs.Shown.{lines_text};
+ghost use Rattle.moxi_script_print.specs.Printing.{shown_script};
+ghost use Rattle.smv_commands.specs.Scripts.{IsScript, IsScriptText, OfBytes as OfScript};
 
 use btor_text::print_btor;
 use command_core::{Answer, LastFile, Stop, answer_file, refusal, text_answer};
-use smv_models::{SMV_LIMIT, chain_in};
+use moxi_script_print::print_script;
+use smv_flatten::Flat;
+use smv_models::{SMV_LIMIT, flat_in};
+use smv_to_moxi::to_moxi;
 use std::alloc::Global;
 use text_core::kinds::smv;
-use text_core::{End, Name, Shelf, Text};
-use witness_lift::{
-    SmvChain, model_lines_are_counted, model_lines_are_shared, model_lines_are_spelled,
-    models_have_frames,
-};
+use text_core::{End, Name, NoMemory, Shelf, Text};
+use witness_lift::SmvChain;
+
+/// Returns the flat form of the model to which the bytes parse, with its lines.
+///
+/// `needed` is the number of the invariant that the model must have, 0 where any will do. `Err` is the first refusal, or
+/// out of memory.
+pub(crate) fn chain_in(alloc: Global, bytes: &[u8], needed: u32) -> Result<SmvChain, End>
+    requires { length bytes.now ≤ most_smv_bytes }
+    ensures form { IfOk result (IsFormIn bytes.now needed) }
+    ensures refused { IfErr result (IsModelEnd bytes.now needed) }
+{
+    let flat = flat_in(alloc, bytes, needed)?;
+    Ok(SmvChain::over(alloc, flat)?)
+}
 
 // Translates a model to its BTOR2 text.
 #[derive(Drop)]
@@ -84,16 +101,60 @@ fn chain_text(alloc: Global, chain: &SmvChain) -> Result<Text, End>
     Ok(print_btor(alloc, chain.nodes())?)
 }
 
-/// Proves that the text written for an accepted model spells one list of lines, which has the model's behavior.
-///
-/// Frames 0 to k with every constraint true reach bad line j at frame k exactly where a run breaks invariant j. Such a
-/// run has k transitions, and its last state breaks the invariant. The lines are few, and no two sorts, constants or
-/// operators among them are the same.
-pub fn translations_are_correct()
-    ensures { TranslationsAreCorrect }
+// Translates a model to its MoXI script.
+#[derive(Drop)]
+struct SmvToMoxi;
+
+impl LastFile for SmvToMoxi {
+    ghost most = { most_smv_bytes };
+
+    ghost longer = { smv_too_long };
+
+    ghost defines = { λ command. OfScript };
+
+    ghost fits = { λ command. Unit {0} };
+
+    ghost longer_says = { tt };
+
+    ghost says = { λ command bytes a h. text_says (IsScriptText bytes) (IsCheckRefusal bytes 0) a h };
+
+    fn limit(&self) -> usize {
+        SMV_LIMIT
+    }
+
+    fn too_long(&self) -> Answer {
+        Answer::Refused(refusal(smv::TOO_LONG))
+    }
+
+    #[tactic(auto, using(command_core::specs::laws::Texts::text_ok, command_core::specs::laws::Texts::text_stop))]
+    fn answer(&self, alloc: Global, bytes: &[u8]) -> Result<Answer, Stop> {
+        text_answer(script_text(alloc, bytes))
+    }
+}
+
+/// Reads an SMV model, and returns its MoXI script.
+pub fn smv_to_moxi<F: Shelf>(alloc: Global, model: &Name, shelf: &mut F) -> Result<Answer, Stop>
+    ensures answer { IfOk result (MayGive (F.files shelf.old) (model.now ∷ []) (λ files. IsScript files model.now) (HasNewFault (F.faults shelf.old) (F.faults shelf.new))) }
+    ensures stop { IfErr result (StopsWith (MayGive (F.files shelf.old) (model.now ∷ []) (λ files. IsScript files model.now) (HasNewFault (F.faults shelf.old) (F.faults shelf.new)))) }
+    ensures shelf { KeepsShelf (F.files shelf.old) (F.files shelf.new) (F.faults shelf.old) (F.faults shelf.new) (F.begun shelf.old) (F.begun shelf.new) (model.now ∷ []) (IsErrAnd result StopsUnread) }
 {
-    models_have_frames();
-    model_lines_are_counted();
-    model_lines_are_shared();
-    model_lines_are_spelled();
+    answer_file(alloc, model, &SmvToMoxi, shelf)
+}
+
+// The text of the script of the model to which the bytes parse, or their refusal.
+fn script_text(alloc: Global, bytes: &[u8]) -> Result<Text, End>
+    requires { length bytes.now ≤ most_smv_bytes }
+    ensures text { IfOk result (IsScriptText bytes.now) }
+    ensures refused { IfErr result (IsModelEnd bytes.now 0) }
+{
+    let flat = flat_in(alloc, bytes, 0)?;
+    Ok(text_of(alloc, &flat)?)
+}
+
+// The text of a flat form's script.
+fn text_of(alloc: Global, flat: &Flat) -> Result<Text, NoMemory>
+    ensures { IfOk result (λ text. text ≡ lines_text (shown_script (script_of (flat_plain flat.now) flat.now.width))) }
+{
+    let script = to_moxi(alloc, flat)?;
+    print_script(alloc, &script)
 }

@@ -4,3 +4,5 @@ pub mod FlatView
 pub mod FlatFormulas
 pub mod FlatParts
 pub mod laws
+pub mod FlatTruth
+pub mod FlatWidth

@@ -26,7 +26,7 @@ use Rattle.smv_laws.proofs.SafeExpressions.{accepted_is_checked_law, expressions
 use Rattle.smv_laws.proofs.ValueLaws.{paths_lie_law}
 use Rattle.smv_items.specs.FlatItems.{Content, variable, definition, actual, Origin, with_content, actual_content, actual_items, domain_content, variable_item, definition_item, element_items, items_here, symbols_of, leaf_in}
 use Rattle.smv_flat.specs.FlatForms.{Form, flat_in, content_form, body_forms, assignment_form, element_forms, forms_here, forms_from, flat_of}
-use Rattle.smv_flat_laws.specs.FlatTruth.{Row, symbol_value, IsRow}
+use Rattle.smv_flat.specs.FlatTruth.{Row, symbol_value, IsRow}
 use Rattle.smv_flat_laws.proofs.FlatSame.{reads}
 use Rattle.smv_flat_laws.proofs.FlatRows.{row_values}
 use Rattle.smv_flat_evaluation.specs.FlatSafety.{FlatSafe, FormsAreSafe}

@@ -16,7 +16,7 @@ use Rattle.smv_meaning.specs.Checked.{all_trees}
 use Rattle.smv_operators.specs.declared.seen.Seen.{Seen}
 use Rattle.smv_flat.specs.FlatTree.{FlatTree, flat_truth, flat_number, flat_literal, flat_symbol, flat_item, flat_prefix, flat_chain, flat_choice, flat_cases, flat_select, flat_call, flat_set, flat_range, FlatLinks, no_flat_links, flat_link, FlatBranches, no_flat_branches, flat_branch, FlatTrees, no_flat_trees, flat_tree_then, flat_denote, flat_values}
 use Rattle.smv_flat.specs.FlatForms.{Form, PlainFlat, flat_smv}
-use Rattle.smv_flat_laws.specs.FlatTruth.{Row, IsRow, symbol_value}
+use Rattle.smv_flat.specs.FlatTruth.{Row, IsRow, symbol_value}
 use Rattle.smv_flat_evaluation.specs.RowValues.{row_values}
 
 -- given the values of symbols, and of items in this state and in the following one

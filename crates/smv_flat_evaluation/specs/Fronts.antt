@@ -4,7 +4,7 @@ use Rattle.smv_meaning.specs.declared.value.Value.{Value}
 use Rattle.smv_meaning.specs.Safety.{front_value, front_permits}
 use Rattle.smv_operators.specs.declared.seen.Seen.{Seen}
 use Rattle.smv_flat.specs.FlatTree.{FlatLinks, no_flat_links, flat_link, flat_from_right, flat_denote, flat_implications}
-use Rattle.smv_flat_laws.specs.FlatTruth.{symbol_value}
+use Rattle.smv_flat.specs.FlatTruth.{symbol_value}
 use Rattle.smv_flat_evaluation.specs.RowValues.{row_values}
 
 -- given the values of symbols, and of items in this state and in the following one

@@ -6,7 +6,7 @@ use Rattle.smv_meaning.specs.Expressions.{Denotation}
 use Rattle.smv_operators.specs.declared.seen.Seen.{Seen}
 use Rattle.smv_operators.specs.View.{seen_value}
 use Rattle.smv_flat.specs.FlatTree.{FlatTree, FlatBranches, flat_denote, flat_chosen, flat_taken}
-use Rattle.smv_flat_laws.specs.FlatTruth.{symbol_value}
+use Rattle.smv_flat.specs.FlatTruth.{symbol_value}
 
 abbrev pub seen_or_none : Option Seen → Value
 seen_or_none None = no_value

@@ -6,7 +6,7 @@ ghost use Rattle.smv_meaning.specs.Expressions.{is_implies};
 ghost use Rattle.smv_meaning.specs.Safety.{Fits, front_value};
 ghost use Rattle.smv_flat.specs.FlatTree.{flat_links_of, flat_branches_of, flat_trees_of, flat_from_right, flat_are_implies, flat_values, flat_permits};
 ghost use Rattle.smv_flat.specs.FlatView.{plain_flat, plain_flat_link, plain_flat_branch};
-ghost use Rattle.smv_flat_laws.specs.FlatTruth.{symbol_value};
+ghost use Rattle.smv_flat.specs.FlatTruth.{symbol_value};
 ghost use Rattle.smv_operators.specs.View.{seen_value, plain_value};
 ghost use Rattle.smv_flat_evaluation.specs.RowValues.{row_values, row_denote, row_chosen, row_taken};
 ghost use Rattle.smv_flat_evaluation.specs.Fronts.{row_chain, row_implications, row_fronts_value, row_fronts_permit};

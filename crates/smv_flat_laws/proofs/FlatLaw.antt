@@ -20,7 +20,7 @@ use Rattle.smv_flat_laws.proofs.FlatRows.{row_reads, has_items}
 use Rattle.smv_flat_laws.proofs.FlatTruths.{AreRows, assignable, assigned_here, forms_same, state_meant, state_target, agrees_first, agrees_always, agrees_following}
 use Rattle.smv_flat_laws.proofs.FlatSections.{modules_plain, instances_plain}
 use Rattle.smv_flat_laws.proofs.FlatStays.{stays_same, invariants_match, match_at}
-use Rattle.smv_flat_laws.specs.FlatTruth.{forms_invariants}
+use Rattle.smv_flat.specs.FlatTruth.{forms_invariants}
 use Rattle.smv_meaning.specs.Phases.{invariants_in}
 
 pub all_assignable : (seen xs : List Assigned) → passes (assigned_checks seen xs) ≡ true → list_all assignable xs ≡ true

@@ -22,7 +22,7 @@ use Rattle.smv_laws.proofs.Agreeing.{denote_same}
 use Rattle.smv_laws.proofs.Settling.{values_settle_law, values_are_one_law}
 use Rattle.smv_items.specs.FlatItems.{Leaf, Content, variable, definition, actual, Origin, items_here, origins_of, symbols_of, is_variable_as, path_of, item_leaf, symbol_leaf, leaf_found, leaf_in, kind_of, flat_item_of}
 use Rattle.smv_flat.specs.FlatForms.{Form, flat_in, content_form, body_forms, assignment_form, element_forms, forms_here, forms_from, PlainFlat, flat_of}
-use Rattle.smv_flat_laws.specs.FlatTruth.{Row, symbol_or_none, symbol_value, form_denotes, GivesKind, GivesItem, MeetsForms, IsRow}
+use Rattle.smv_flat.specs.FlatTruth.{Row, symbol_or_none, symbol_value, form_denotes, GivesKind, GivesItem, MeetsForms, IsRow}
 use Rattle.smv_flat_laws.specs.FlatLaws.{content_value, origin_value, row_of, RowIsThere, RowIsOne}
 use Rattle.smv_flat_laws.proofs.FlatSame.{leaf_value, flat_same}
 use Rattle.smv_flat_laws.proofs.FlatFound.{body_in, pair, body_at_item, variable_at_item, Home, home_found, symbol_at, both}

@@ -23,7 +23,7 @@ use Rattle.smv_laws.proofs.Typable.{split, Holds}
 use Rattle.smv_flat.specs.FlatTree.{FlatTree}
 use Rattle.smv_items.specs.FlatItems.{Content, variable, definition, actual, Origin, with_content, actual_content, actual_items, domain_content, variable_item, definition_item, element_items, items_here, origins_of, path_of, kind_of, flat_item_of}
 use Rattle.smv_flat.specs.FlatForms.{Form, content_form, body_forms, assignment_form, element_forms, forms_here, forms_from, flat_of}
-use Rattle.smv_flat_laws.specs.FlatTruth.{Row, form_denotes, kind_stays, items_stay, role_invariant, forms_invariants, is_false_in}
+use Rattle.smv_flat.specs.FlatTruth.{Row, form_denotes, kind_stays, items_stay, role_invariant, forms_invariants, is_false_in}
 use Rattle.smv_flat_laws.proofs.FlatRows.{AllFrom, all_of, HasContent, HasItems}
 use Rattle.smv_flat_laws.proofs.FlatTruths.{Agrees}
 use Rattle.smv_flat_laws.proofs.FlatSections.{no_instance, section_is_plain, module_is_plain, AllModules}

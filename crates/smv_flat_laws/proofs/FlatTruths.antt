@@ -25,7 +25,7 @@ use Rattle.smv_laws.proofs.Settling.{types_settle_law}
 use Rattle.smv_laws.proofs.Typable.{split, Holds}
 use Rattle.smv_items.specs.FlatItems.{Leaf, of_item, Content, variable, definition, actual, Origin, items_here, symbols_of, item_leaf, leaf_found, leaf_in}
 use Rattle.smv_flat.specs.FlatForms.{Form, flat_in, content_form, body_forms, number_or_first, assignment_form, element_forms, forms_here, forms_from, flat_of}
-use Rattle.smv_flat_laws.specs.FlatTruth.{Row, symbol_value, form_denotes, IsRow, role_holds}
+use Rattle.smv_flat.specs.FlatTruth.{Row, symbol_value, form_denotes, IsRow, role_holds}
 use Rattle.smv_flat_laws.proofs.FlatSame.{flat_same}
 use Rattle.smv_flat_laws.proofs.FlatFound.{variable_at_item, Home, home_found}
 use Rattle.smv_flat_laws.proofs.FlatRows.{row_leaf, row_reads, row_values}

@@ -14,7 +14,7 @@ use Rattle.smv_meaning.specs.Runs.{init_holds, invar_holds, trans_holds, frozen_
 use Rattle.smv_meaning.specs.Settled.{Acyclic, values_in}
 use Rattle.smv_items.specs.FlatItems.{Content, variable, definition, actual, Origin, origins_of, path_of}
 use Rattle.smv_flat.specs.FlatForms.{PlainFlat, flat_of, flat_smv}
-use Rattle.smv_flat_laws.specs.FlatTruth.{Row, IsRow, flat_init, flat_invar, flat_trans, flat_stay, flat_broken}
+use Rattle.smv_flat.specs.FlatTruth.{Row, IsRow, flat_init, flat_invar, flat_trans, flat_stay, flat_broken}
 
 -- ---- each state and label has one row
 

@@ -1,4 +1,3 @@
-pub mod FlatTruth
 pub mod FlatLaws
 pub mod FlatBounds
 pub mod FlatOrders

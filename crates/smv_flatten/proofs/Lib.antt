@@ -1,3 +1,4 @@
 pub mod Items
 pub mod Models
 pub mod ItemNumbers
+pub mod Forms

@@ -14,7 +14,7 @@ use Rattle.smv_flat.specs.FlatForms.{PlainFlat, flat_of, flat_smv}
 use Rattle.smv_flat.specs.FlatFormulas.{form_plain}
 use Rattle.smv_items.specs.FlatItemView.{item_plain}
 use Rattle.smv_flat_laws.specs.FlatOrders.{IsItemOrder}
-use Rattle.smv_width.specs.FlatWidth.{width_of}
+use Rattle.smv_flat.specs.FlatWidth.{width_of}
 
 -- the items and formulas of the code; integers have as many bits as the width says, and the weight counts the tokens of the modules' bodies over all instances
 pub record FlatModel : Type 0 where
@@ -52,6 +52,25 @@ pub record IsOfModel (f : FlatModel) : Type 0 where
   pub width : f.width ≡ width_of (flat_smv source)
   pub weight : f.weight ≡ weight_of source
   pub invariants : f.invariants ≡ length (invariants_in (instances_of source))
+
+-- the flat form of this model, which a text spells and whose checks hold, with the model's width
+pub record IsFormOf (source : PlainSource) (f : FlatModel) : Type 0 where
+  pub needed : ℕ
+  pub read : IsRead source
+  pub accepted : IsAccepted source needed
+  pub form : flat_plain f ≡ flat_smv source
+  pub width : f.width ≡ width_of (flat_smv source)
+
+-- some model has this flat form
+abbrev pub HasForm : FlatModel → Type 0
+HasForm f = (source : PlainSource) × IsFormOf source f
+
+-- the same of the flat form alone
+pub record IsFlatOf (source : PlainSource) (flat : PlainFlat) : Type 0 where
+  pub needed : ℕ
+  pub read : IsRead source
+  pub accepted : IsAccepted source needed
+  pub form : flat ≡ flat_smv source
 
 -- what these parts of the flat form of instances come to is of a model
 abbrev pub AreOfModel : List Instance → Type 0

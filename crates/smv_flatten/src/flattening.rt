@@ -17,7 +17,7 @@ ghost use Rattle.smv_items.specs.FlatItemView.{item_plain};
 ghost use Rattle.smv_items.specs.laws.Declarations.{DiffersInside};
 ghost use Rattle.smv_flat.specs.FlatForms.{forms_of, flat_of, flat_smv};
 ghost use Rattle.smv_flat.specs.FlatFormulas.{form_plain};
-ghost use Rattle.smv_width.specs.FlatWidth.{width_of};
+ghost use Rattle.smv_flat.specs.FlatWidth.{width_of};
 ghost use Rattle.smv_flat_laws.specs.FlatOrders.{IsItemOrder};
 ghost use Rattle.smv_flatten.specs.Phases.{early_checks};
 ghost use Rattle.smv_flatten.specs.FlatModel.{flat_plain, AreOfModel, IsRead};

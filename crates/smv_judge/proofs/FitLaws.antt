@@ -30,7 +30,7 @@ use Rattle.smv_items.specs.declared.items.ItemKind.{ItemKind}
 use Rattle.smv_items.specs.declared.items.ItemKind.TheVariants.{State, Frozen, Input, Define, Actual}
 use Rattle.smv_items.specs.FlatItems.{Content, variable, definition, actual, Origin, origins_of, path_of, kind_of, type_or_truth, domain_members, PlainFlatItem, flat_item_of}
 use Rattle.smv_flat.specs.FlatForms.{flat_of}
-use Rattle.smv_flat_laws.specs.FlatTruth.{Row, GivesKind, GivesItem}
+use Rattle.smv_flat.specs.FlatTruth.{Row, GivesKind, GivesItem}
 use Rattle.smv_flat_laws.proofs.FlatPlaces.{position_cons}
 use Rattle.smv_flat_laws.proofs.FlatRows.{item_there}
 use Rattle.smv_judge.specs.Fits.{type_has, declared_has, item_fits, items_fit}

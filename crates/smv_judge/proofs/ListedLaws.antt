@@ -16,7 +16,8 @@ use Rattle.smv_flat.specs.FlatForms.{PlainFlat}
 use Rattle.smv_rows.specs.Listed.{are_named_after, lists_label}
 use Rattle.smv_rows.specs.RowOrders.{is_input}
 use Rattle.smv_judge.specs.Labels.{given_first, first_label}
-use Rattle.smv_judge.specs.Models.{IsFlatOf, IsListedRun, AllListed}
+use Rattle.smv_flatten.specs.FlatModel.{IsFlatOf}
+use Rattle.smv_judge.specs.Models.{IsListedRun, AllListed}
 use Rattle.smv_judge.proofs.FitLaws.{names_same}
 
 -- ---- the label of the last state

@@ -24,7 +24,7 @@ use Rattle.smv_accepted.proofs.ItemNames.{names_are_distinct_law}
 use Rattle.smv_items.specs.FlatItems.{PlainFlatItem, origins_of}
 use Rattle.smv_items.specs.FlatItemView.{item_plain}
 use Rattle.smv_flat.specs.FlatForms.{PlainFlat, flat_smv}
-use Rattle.smv_flat_laws.specs.FlatTruth.{Row, GivesItem, IsRow}
+use Rattle.smv_flat.specs.FlatTruth.{Row, GivesItem, IsRow}
 use Rattle.smv_flat_laws.specs.FlatLaws.{HasTruth}
 use Rattle.smv_flat_laws.proofs.FlatLaw.{same_truth_law}
 use Rattle.smv_operators.specs.declared.seen.Seen.{Seen}
@@ -37,7 +37,8 @@ use Rattle.smv_rows.specs.Places.{IsGiven}
 use Rattle.smv_rows.specs.Truths.{CanFill, RowsAreSafe}
 use Rattle.smv_judge.specs.Fits.{items_fit}
 use Rattle.smv_judge.specs.Labels.{first_label}
-use Rattle.smv_judge.specs.Models.{IsFlatOf, HasModel, failing, first_clauses, LabelFits, StateFits}
+use Rattle.smv_flatten.specs.FlatModel.{IsFlatOf}
+use Rattle.smv_judge.specs.Models.{HasModel, failing, first_clauses, LabelFits, StateFits}
 use Rattle.smv_judge.proofs.Declared.{AllDeclared, origins_declared}
 use Rattle.smv_judge.proofs.FitLaws.{fits_so, first_label_fits}
 use Rattle.digraph.proofs.Lists.{same}

@@ -4,7 +4,7 @@ use Rattle.std.proofs.lemmas.List.{append_assoc}
 use Rattle.smv_meaning.specs.declared.value.Given.{Given}
 use Rattle.smv_meaning.specs.Values.{Valuation, given}
 use Rattle.smv_flat.specs.FlatForms.{PlainFlat}
-use Rattle.smv_flat_laws.specs.FlatTruth.{Row, IsRow}
+use Rattle.smv_flat.specs.FlatTruth.{Row, IsRow}
 use Rattle.smv_judge.specs.Taken.{AreRowsOf, HasTaken}
 use Rattle.digraph.proofs.Lists.{same}
 

@@ -5,7 +5,7 @@ use Rattle.smv_meaning.specs.declared.value.Value.{Value}
 use Rattle.smv_meaning.specs.Values.{is_truth, is_between, is_word_of, is_among}
 use Rattle.smv_meaning.specs.Types.{ExprType, truth_type, integer_type, symbol_type, word_type}
 use Rattle.smv_items.specs.FlatItems.{PlainFlatItem}
-use Rattle.smv_flat_laws.specs.FlatTruth.{Row}
+use Rattle.smv_flat.specs.FlatTruth.{Row}
 use Rattle.smv_flat_laws.specs.FlatOrders.{is_variable}
 
 abbrev pub type_has : ExprType → Value → Bool

@@ -1,4 +1,4 @@
--- Of which model a flat form is, and what fails at a step of a stated run (NuSMV 2.6 User Manual, 2.3 and 2.4).
+-- What fails at a step of a stated run (NuSMV 2.6 User Manual, 2.3 and 2.4).
 use Rattle.std.specs.Prelude.{◌≡◌, ℕ, ◌&&◌, Bool, true, if◌then◌else◌, List, [], ◌∷◌, map, length, Option, Some, None, IsTrue}
 use Rattle.std.specs.List.{AllByRecursion}
 use Rattle.name_maps.specs.Tables.{AreDistinct}
@@ -9,26 +9,19 @@ use Rattle.smv_meaning.specs.declared.value.Given.{Given}
 use Rattle.smv_meaning.specs.declared.value.Run.{Run}
 use Rattle.smv_meaning.specs.Values.{Valuation}
 use Rattle.smv_meaning.specs.Instances.{Instance, instances_of}
-use Rattle.smv_meaning.specs.Phases.{IsAccepted}
 use Rattle.smv_meaning.specs.Runs.{state_fits, label_fits, init_holds, invar_holds, step_holds}
 use Rattle.smv_items.specs.FlatItems.{PlainFlatItem}
-use Rattle.smv_flat.specs.FlatForms.{PlainFlat, flat_smv}
-use Rattle.smv_flat_laws.specs.FlatTruth.{IsRow}
+use Rattle.smv_flat.specs.FlatForms.{PlainFlat}
+use Rattle.smv_flat.specs.FlatTruth.{IsRow}
 use Rattle.smv_operators.specs.declared.seen.Seen.{Seen}
 use Rattle.smv_flat_evaluation.specs.RowValues.{row_values}
-use Rattle.smv_flatten.specs.FlatModel.{IsRead}
+use Rattle.smv_flatten.specs.FlatModel.{IsFlatOf}
 use Rattle.smv_flat.specs.declared.parts.FlatParts.{FlatParts}
 use Rattle.smv_rows.specs.Listed.{lists_state, lists_label}
 use Rattle.smv_rows.specs.Places.{IsGiven}
 use Rattle.smv_flat.specs.FlatParts.{parts_plain}
 
--- a text spells the model, its checks hold, and this is its flat form
-pub record IsFlatOf (source : PlainSource) (flat : PlainFlat) : Type 0 where
-  pub needed : ℕ
-  pub read : IsRead source
-  pub accepted : IsAccepted source needed
-  pub form : flat ≡ flat_smv source
-
+-- some model has this flat form
 abbrev pub HasModel : FlatParts → Type 0
 HasModel flat = (source : PlainSource) × IsFlatOf source (parts_plain flat)
 

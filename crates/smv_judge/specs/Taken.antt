@@ -3,7 +3,7 @@ use Rattle.std.specs.Prelude.{List, [], ◌∷◌}
 use Rattle.smv_meaning.specs.declared.value.Given.{Given}
 use Rattle.smv_meaning.specs.Values.{given}
 use Rattle.smv_flat.specs.FlatForms.{PlainFlat}
-use Rattle.smv_flat_laws.specs.FlatTruth.{Row, IsRow}
+use Rattle.smv_flat.specs.FlatTruth.{Row, IsRow}
 
 -- the first label, or the last one of all where none is left
 abbrev pub next_or : List Given → List (List Given) → List Given

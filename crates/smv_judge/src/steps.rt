@@ -3,12 +3,13 @@ ghost use Rattle.std.specs.Prelude.{◌≡◌, ◌&&◌, None};
 ghost use Rattle.smv_text.specs.Tree.{PlainSource};
 ghost use Rattle.smv_meaning.specs.Values.{Valuation};
 ghost use Rattle.smv_meaning.specs.Instances.{instances_of};
-ghost use Rattle.smv_flat_laws.specs.FlatTruth.{IsRow, flat_trans, flat_stay};
+ghost use Rattle.smv_flat.specs.FlatTruth.{IsRow, flat_trans, flat_stay};
 ghost use Rattle.smv_flat_evaluation.specs.RowValues.{row_values};
 ghost use Rattle.smv_flat.specs.FlatParts.{parts_plain};
 ghost use Rattle.smv_rows.specs.RowOrders.{IsRowOrder};
 ghost use Rattle.smv_rows.specs.Truths.{AllSafe};
-ghost use Rattle.smv_judge.specs.Models.{IsFlatOf, HasModel, failing, first_clauses, step_clauses, IsFirstRow, AreStepRows, IsStateRow};
+ghost use Rattle.smv_flatten.specs.FlatModel.{IsFlatOf};
+ghost use Rattle.smv_judge.specs.Models.{HasModel, failing, first_clauses, step_clauses, IsFirstRow, AreStepRows, IsStateRow};
 
 use crate::fits::items_fit;
 use smv_flat::FlatParts;

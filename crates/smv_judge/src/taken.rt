@@ -1,6 +1,6 @@
 // Takers of the rows that a judge fills.
 ghost use Rattle.std.specs.Prelude.{◌++◌, ◌∷◌, [], List, OnOk};
-ghost use Rattle.smv_flat_laws.specs.FlatTruth.{Row};
+ghost use Rattle.smv_flat.specs.FlatTruth.{Row};
 ghost use Rattle.smv_flat_evaluation.specs.RowValues.{row_values};
 
 use smv_operators::Seen;

@@ -8,11 +8,9 @@ use Rattle.smv_text.specs.Tree.{PlainSource}
 use Rattle.smv_meaning.specs.Instances.{weight_of}
 use Rattle.smv_meaning.specs.Phases.{IsAccepted, checks_of}
 use Rattle.smv_flat.specs.FlatForms.{flat_smv}
-use Rattle.smv_width.specs.FlatWidth.{width_of}
-use Rattle.smv_flatten.specs.FlatModel.{FlatModel, IsRead, flat_plain}
+use Rattle.smv_flat.specs.FlatWidth.{width_of}
+use Rattle.smv_flatten.specs.FlatModel.{FlatModel, HasForm, IsRead, flat_plain}
 use Rattle.smv_flatten.specs.Refusing.{Decides}
-use Rattle.smv_judge.specs.Models.{IsFlatOf}
-use Rattle.witness_lift.specs.Breaking.{IsFormOf}
 use Rattle.smv_models.specs.Models.{IsFormIn, IsModel, IsModelEnd, IsTextEnd}
 
 pub read_of : (bytes : List ℕ) (source : PlainSource) → IsModel bytes source → IsRead source
@@ -44,14 +42,6 @@ pub memory_ends : {T : Type 0} (bytes : List ℕ) (needed : ℕ) (result : Resul
 memory_ends bytes needed (Ok x) h = tt
 memory_ends bytes needed (Err e) h = subst (IsModelEnd bytes needed) (sym h) tt
 
--- ---- the judge of runs takes the flat form
-
-pub flat_form : (source : PlainSource) (f : FlatModel) → IsFormOf source f → IsFlatOf source (flat_plain f)
-flat_form source f form = record { needed = form.needed; read = form.read; accepted = form.accepted; form = form.form }
-
 -- the flat form is that of some model
-pub has_form : (bytes : List ℕ) (needed : ℕ) (f : FlatModel) → IsFormIn bytes needed f → (source : PlainSource) × IsFormOf source f
+pub has_form : (bytes : List ℕ) (needed : ℕ) (f : FlatModel) → IsFormIn bytes needed f → HasForm f
 has_form bytes needed f h = (h.source, h.form)
-
-pub has_flat : (f : FlatModel) → (source : PlainSource) × IsFormOf source f → (source : PlainSource) × IsFlatOf source (flat_plain f)
-has_flat f h = (h.0, flat_form h.0 f h.1)

@@ -13,8 +13,7 @@ use Rattle.smv_text.specs.Sources.{SpellsSource}
 use Rattle.smv_parse.specs.Parsing.{IsRefused}
 use Rattle.smv_meaning.specs.Instances.{weight_of}
 use Rattle.smv_meaning.specs.Phases.{IsAccepted, first_refusal}
-use Rattle.smv_flatten.specs.FlatModel.{FlatModel}
-use Rattle.witness_lift.specs.Breaking.{IsFormOf}
+use Rattle.smv_flatten.specs.FlatModel.{FlatModel, IsFormOf}
 use Rattle.command_core.specs.declared.answer.Answer.{Answer}
 use Rattle.command_core.specs.declared.answer.Answer.TheVariants.{Refused}
 use Rattle.smv_models.specs.Limits.{most_smv_bytes}

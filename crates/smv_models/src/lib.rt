@@ -3,5 +3,4 @@
 
 mod models;
 
-pub use models::{SMV_LIMIT, chain_in, flat_in};
-pub use witness_lift::models_have_flat_systems;
+pub use models::{SMV_LIMIT, flat_in};

@@ -11,7 +11,6 @@ use smv_text::Source;
 use std::alloc::Global;
 use std::mem::drop;
 use text_core::End;
-use witness_lift::SmvChain;
 
 /// The most bytes of an SMV model.
 pub const SMV_LIMIT: usize = 1_048_576;
@@ -40,20 +39,4 @@ pub fn flat_in(alloc: Global, bytes: &[u8], needed: u32) -> Result<Flat, End>
     let flat = flatten(alloc, &model, needed);
     drop(model);
     flat
-}
-
-/// Returns the flat form of the model to which the bytes parse, with its lines.
-///
-/// `needed` is the number of the invariant that the model must have, 0 where any will do. The model is dropped before
-/// it returns. `Err` is the first refusal, or out of memory.
-#[tactic(auto, using(crate::proofs::Forms::read_of, crate::proofs::Forms::form_in, crate::proofs::Forms::flat_ends, crate::proofs::Forms::text_ends))]
-pub fn chain_in(alloc: Global, bytes: &[u8], needed: u32) -> Result<SmvChain, End>
-    requires { length bytes.now ≤ most_smv_bytes }
-    ensures form { IfOk result (IsFormIn bytes.now needed) }
-    ensures refused { IfErr result (IsModelEnd bytes.now needed) }
-{
-    let model = model_of(alloc, bytes)?;
-    let chain = SmvChain::of(alloc, &model, needed);
-    drop(model);
-    chain
 }

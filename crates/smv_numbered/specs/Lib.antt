@@ -1,3 +1,4 @@
 pub mod Values
 pub mod Runs
 pub mod laws
+pub mod Stated

@@ -16,7 +16,7 @@ use Rattle.smv_flat.specs.FlatTree.{FlatTree, flat_denote}
 use Rattle.smv_flat.specs.declared.forms.Role.{Role}
 use Rattle.smv_flat.specs.declared.forms.Role.TheVariants.{Body, Assign, Init, Trans, Invar, Invariant}
 use Rattle.smv_flat.specs.FlatForms.{Form, PlainFlat}
-use Rattle.smv_flat_laws.specs.FlatTruth.{Row, symbol_value, form_denotes, GivesKind, GivesItem, MeetsRole, MeetsForms, IsRow}
+use Rattle.smv_flat.specs.FlatTruth.{Row, symbol_value, form_denotes, GivesKind, GivesItem, MeetsRole, MeetsForms, IsRow}
 use Rattle.smv_flat_laws.specs.FlatOrders.{all_read, Bodies, is_variable, body_reads, is_settled, AllOccur}
 use Rattle.smv_rows.specs.Filling.{with_body, filled}
 use Rattle.smv_rows.specs.RowOrders.{IsRoleBody, HaveBodies, VariablesAreFree}

@@ -17,7 +17,7 @@ use Rattle.smv_items.specs.FlatItems.{PlainFlatItem}
 use Rattle.smv_items.specs.FlatItemView.{item_plain}
 use Rattle.smv_operators.specs.declared.seen.Seen.{Seen}
 use Rattle.smv_operators.specs.View.{seen_value}
-use Rattle.smv_flat_laws.specs.FlatTruth.{GivesKind, GivesItem}
+use Rattle.smv_flat.specs.FlatTruth.{GivesKind, GivesItem}
 use Rattle.smv_flat_laws.proofs.FlatPlaces.{position_cons}
 use Rattle.smv_flat_evaluation.specs.RowValues.{seen_or_none, row_values}
 use Rattle.smv_rows.specs.Listed.{is_in_state, are_named_after, lists_state, lists_label, AreListed, next_value, state_left, label_left, listed_values}

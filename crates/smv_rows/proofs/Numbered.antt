@@ -16,7 +16,7 @@ use Rattle.smv_items.specs.FlatItems.{PlainFlatItem}
 use Rattle.smv_items.specs.FlatItemView.{item_plain}
 use Rattle.smv_operators.specs.declared.seen.Seen.{Seen}
 use Rattle.smv_operators.specs.View.{seen_value}
-use Rattle.smv_flat_laws.specs.FlatTruth.{GivesKind, GivesItem}
+use Rattle.smv_flat.specs.FlatTruth.{GivesKind, GivesItem}
 use Rattle.smv_flat_evaluation.specs.RowValues.{row_values}
 use Rattle.smv_numbered.specs.declared.heading.Heading.{Heading}
 use Rattle.smv_numbered.specs.declared.heading.Heading.TheVariants as heading

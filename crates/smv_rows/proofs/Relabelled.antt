@@ -10,7 +10,7 @@ use Rattle.smv_items.specs.declared.items.ItemKind.TheVariants.{State, Frozen, I
 use Rattle.smv_items.specs.declared.items.FlatItem.{FlatItem}
 use Rattle.smv_items.specs.FlatItemView.{item_plain}
 use Rattle.smv_operators.specs.declared.seen.Seen.{Seen}
-use Rattle.smv_flat_laws.specs.FlatTruth.{Row, GivesKind, GivesItem, IsRow}
+use Rattle.smv_flat.specs.FlatTruth.{Row, GivesKind, GivesItem, IsRow}
 use Rattle.smv_flat_evaluation.specs.RowValues.{row_values}
 use Rattle.smv_rows.specs.Places.{IsGiven}
 use Rattle.smv_rows.specs.Relabelling.{input_or}

@@ -6,7 +6,7 @@ use Rattle.smv_meaning.specs.Values.{Valuation}
 use Rattle.smv_operators.specs.declared.seen.Seen.{Seen}
 use Rattle.smv_operators.specs.View.{seen_value}
 use Rattle.smv_flat.specs.declared.expressions.FlatExpr.{FlatExpr}
-use Rattle.smv_flat_laws.specs.FlatTruth.{Row, symbol_value, IsRow}
+use Rattle.smv_flat.specs.FlatTruth.{Row, symbol_value, IsRow}
 use Rattle.smv_flat_evaluation.specs.RowValues.{row_values}
 use Rattle.smv_rows.specs.Filling.{bodies_in, filled, FillsSafely}
 use Rattle.smv_flat.specs.FlatParts.{parts_plain}

@@ -5,7 +5,7 @@ use Rattle.smv_meaning.specs.declared.value.Value.{Value}
 use Rattle.smv_meaning.specs.laws.Booleans.{both_true}
 use Rattle.smv_flat.specs.FlatTree.{FlatTree}
 use Rattle.smv_flat.specs.FlatForms.{Form, PlainFlat}
-use Rattle.smv_flat_laws.specs.FlatTruth.{Row, symbol_value}
+use Rattle.smv_flat.specs.FlatTruth.{Row, symbol_value}
 use Rattle.smv_flat_evaluation.specs.FlatSafety.{FlatSafe, FormsSafe}
 use Rattle.smv_flat_laws.specs.FlatOrders.{Bodies, body_reads, is_settled, IsAmong}
 use Rattle.smv_rows.specs.Filling.{with_body, filled, BodySafe, FillsSafely}

@@ -5,7 +5,7 @@ use Rattle.smv_flat.specs.FlatTree.{FlatTree}
 use Rattle.smv_flat.specs.declared.forms.Role.{Role}
 use Rattle.smv_flat.specs.declared.forms.Role.TheVariants.{Body, Assign, Init, Trans, Invar, Invariant}
 use Rattle.smv_flat.specs.FlatForms.{Form, PlainFlat}
-use Rattle.smv_flat_laws.specs.FlatTruth.{Row, symbol_value, role_invariant, forms_invariants}
+use Rattle.smv_flat.specs.FlatTruth.{Row, symbol_value, role_invariant, forms_invariants}
 use Rattle.smv_flat_evaluation.specs.FlatSafety.{FlatSafe, FormsSafe}
 
 pub invariant_safe : (flat : PlainFlat) (now later : Row) (fs : List Form) (j : ℕ) (e : FlatTree) → FormsSafe flat now later fs → slice_get (forms_invariants fs) j ≡ Some e → FlatSafe (symbol_value flat.symbols) now later e

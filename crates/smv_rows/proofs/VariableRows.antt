@@ -13,7 +13,7 @@ use Rattle.smv_items.specs.declared.items.ItemKind.TheVariants.{State, Frozen, I
 use Rattle.smv_items.specs.declared.items.FlatItem.{FlatItem}
 use Rattle.smv_items.specs.FlatItemView.{item_plain}
 use Rattle.smv_flat.specs.FlatTree.{FlatTree, flat_denote}
-use Rattle.smv_flat_laws.specs.FlatTruth.{GivesKind, GivesItem}
+use Rattle.smv_flat.specs.FlatTruth.{GivesKind, GivesItem}
 use Rattle.smv_flat_evaluation.specs.RowValues.{seen_or_none, row_values}
 use Rattle.smv_rows.specs.Filling.{with_body}
 use Rattle.smv_rows.specs.Places.{kind_and_place, item_place, NamesHave, value_of_kind, given_value}

@@ -5,7 +5,7 @@ use Rattle.smv_flat.specs.declared.expressions.FlatExpr.{FlatExpr}
 use Rattle.smv_flat.specs.FlatTree.{FlatTree, flat_denote}
 use Rattle.smv_flat.specs.FlatView.{plain_flat}
 use Rattle.smv_meaning.specs.declared.value.Value.{Value}
-use Rattle.smv_flat_laws.specs.FlatTruth.{Row}
+use Rattle.smv_flat.specs.FlatTruth.{Row}
 use Rattle.smv_flat_laws.specs.FlatOrders.{Bodies}
 use Rattle.smv_flat_evaluation.specs.FlatSafety.{FlatSafe}
 

@@ -9,7 +9,7 @@ use Rattle.smv_items.specs.declared.items.ItemKind.{ItemKind}
 use Rattle.smv_items.specs.declared.items.ItemKind.TheVariants.{State, Frozen, Input, Define, Actual}
 use Rattle.smv_items.specs.declared.items.FlatItem.{FlatItem}
 use Rattle.smv_items.specs.FlatItemView.{item_plain}
-use Rattle.smv_flat_laws.specs.FlatTruth.{GivesItem}
+use Rattle.smv_flat.specs.FlatTruth.{GivesItem}
 use Rattle.smv_flat_evaluation.specs.RowValues.{row_values}
 use Rattle.smv_rows.specs.declared.places.ItemPlace.{ItemPlace}
 

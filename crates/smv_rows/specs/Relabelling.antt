@@ -4,7 +4,7 @@ use Rattle.smv_meaning.specs.declared.value.Value.{Value}
 use Rattle.smv_meaning.specs.Values.{Valuation}
 use Rattle.smv_operators.specs.declared.seen.Seen.{Seen}
 use Rattle.smv_items.specs.declared.items.FlatItem.{FlatItem}
-use Rattle.smv_flat_laws.specs.FlatTruth.{IsRow}
+use Rattle.smv_flat.specs.FlatTruth.{IsRow}
 use Rattle.smv_flat_evaluation.specs.RowValues.{row_values}
 use Rattle.smv_flat.specs.FlatParts.{parts_plain}
 use Rattle.smv_rows.specs.Places.{IsGiven}

@@ -5,7 +5,7 @@ use Rattle.smv_text.specs.declared.tree.When.{When}
 use Rattle.smv_operators.specs.declared.seen.Seen.{Seen}
 use Rattle.smv_flat.specs.FlatForms.{Form, PlainFlat}
 use Rattle.smv_meaning.specs.Values.{Valuation}
-use Rattle.smv_flat_laws.specs.FlatTruth.{Row, IsRow, role_holds}
+use Rattle.smv_flat.specs.FlatTruth.{Row, IsRow, role_holds}
 use Rattle.smv_flat_evaluation.specs.RowValues.{row_values, row_denote}
 use Rattle.smv_flat_evaluation.specs.FlatSafety.{FormsSafe}
 use Rattle.smv_items.specs.declared.items.FlatItem.{FlatItem}

@@ -3,7 +3,7 @@ ghost use Rattle.std.specs.Prelude.{◌≡◌, ◌<◌, true, length, map, nat_l
 ghost use Rattle.name_maps.specs.Tables.{AreDistinct};
 ghost use Rattle.std.specs.List.{list_all};
 ghost use Rattle.smv_meaning.specs.Values.{given};
-ghost use Rattle.smv_flat_laws.specs.FlatTruth.{symbol_value};
+ghost use Rattle.smv_flat.specs.FlatTruth.{symbol_value};
 ghost use Rattle.smv_flat_evaluation.specs.RowValues.{row_values};
 ghost use Rattle.smv_rows.specs.Filling.{body_plain, bodies_in, with_body, filled, BodySafe, FillsSafely};
 ghost use Rattle.smv_rows.specs.Listed.{AreListed};

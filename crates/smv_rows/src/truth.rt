@@ -5,7 +5,7 @@ ghost use Rattle.smv_meaning.specs.Phases.{when_same};
 ghost use Rattle.smv_items.specs.FlatItemView.{item_plain};
 ghost use Rattle.smv_flat.specs.FlatView.{plain_flat};
 ghost use Rattle.smv_flat.specs.FlatFormulas.{form_plain};
-ghost use Rattle.smv_flat_laws.specs.FlatTruth.{kind_stays as kind_keeps, items_stay, forms_invariants, flat_init, flat_invar, flat_trans, flat_stay, flat_broken};
+ghost use Rattle.smv_flat.specs.FlatTruth.{kind_stays as kind_keeps, items_stay, forms_invariants, flat_init, flat_invar, flat_trans, flat_stay, flat_broken};
 ghost use Rattle.smv_flat_evaluation.specs.RowValues.{row_values, row_denote};
 ghost use Rattle.smv_flat_evaluation.specs.FlatSafety.{RowSafe};
 ghost use Rattle.smv_rows.specs.Filling.{body_plain};

@@ -9,7 +9,7 @@ use Rattle.smv_meaning.specs.declared.value.Value.TheVariants.{Truth, Integer, S
 use Rattle.smv_meaning.specs.Values.{no_value}
 use Rattle.smv_meaning.specs.Operators.{word}
 use Rattle.smv_meaning.specs.Types.{ExprType, truth_type, integer_type, symbol_type, word_type}
-use Rattle.smv_flat_laws.specs.FlatTruth.{symbol_value}
+use Rattle.smv_flat.specs.FlatTruth.{symbol_value}
 use Rattle.moxi_terms.specs.declared.data.Sort.{Sort}
 use Rattle.moxi_terms.specs.declared.data.Sort.TheVariants as sort
 use Rattle.moxi_terms.specs.declared.data.Datum.{Datum}

@@ -15,9 +15,9 @@ use Rattle.smv_items.specs.FlatItems.{PlainFlatItem}
 use Rattle.smv_flat.specs.declared.forms.Role.{Role}
 use Rattle.smv_flat.specs.declared.forms.Role.TheVariants.{Body, Assign, Init, Trans, Invar}
 use Rattle.smv_flat.specs.FlatForms.{Form, PlainFlat, flat_smv}
-use Rattle.smv_flat_laws.specs.FlatTruth.{forms_invariants}
+use Rattle.smv_flat.specs.FlatTruth.{forms_invariants}
 use Rattle.smv_flat.specs.FlatTree.{FlatTree}
-use Rattle.smv_width.specs.FlatWidth.{width_of}
+use Rattle.smv_flat.specs.FlatWidth.{width_of}
 use Rattle.moxi_terms.specs.declared.term.Variable.{Variable}
 use Rattle.moxi_terms.specs.declared.term.Enumeration.{Enumeration}
 use Rattle.moxi_terms.specs.Tree.{Tree, constant, variable, trees_of}

@@ -6,7 +6,7 @@ use Rattle.smv_text.specs.declared.operators.Infix.TheVariants.{Implies}
 use Rattle.smv_meaning.specs.Expressions.{is_implies}
 use Rattle.smv_meaning.specs.Types.{ExprType, is_word_type, is_union, type_width}
 use Rattle.smv_flat.specs.FlatTree.{FlatTree, flat_truth, flat_number, flat_literal, flat_symbol, flat_item, flat_prefix, flat_chain, flat_choice, flat_cases, flat_select, flat_call, flat_set, flat_range, FlatLinks, no_flat_links, flat_link, FlatBranches, no_flat_branches, flat_branch, FlatTrees, no_flat_trees, flat_tree_then, flat_are_implies, flat_is_last}
-use Rattle.smv_width.specs.FlatWidth.{flat_number_of, flat_type}
+use Rattle.smv_flat.specs.FlatWidth.{flat_number_of, flat_type}
 use Rattle.moxi_terms.specs.declared.data.Datum.TheVariants as datum
 use Rattle.moxi_terms.specs.Operators.{nothing}
 use Rattle.moxi_terms.specs.Tree.{Tree, constant, variable, apply, Trees, no_trees, tree}

@@ -28,7 +28,7 @@ use Rattle.smv_laws.proofs.CheckedLaws.{Lead, Placed, Checked, four}
 use Rattle.smv_items.specs.FlatItems.{Content, variable, definition, actual, Origin, with_content, actual_content, actual_items, domain_content, variable_item, definition_item, element_items, items_here, origins_of}
 use Rattle.smv_flat.specs.FlatForms.{Form, content_form, body_forms, element_forms, forms_here, forms_from, forms_of}
 use Rattle.smv_flat_laws.proofs.FlatRows.{AllFrom}
-use Rattle.smv_width.specs.FlatWidth.{tree_width, forms_width}
+use Rattle.smv_flat.specs.FlatWidth.{tree_width, forms_width}
 use Rattle.smv_width.specs.SourceWidth.{has_operators}
 use Rattle.smv_accepted.proofs.Fitting.{rest_first, rest_all}
 use Rattle.smv_laws.proofs.TypeLaws.{if_type}

@@ -14,7 +14,7 @@ use Rattle.smv_meaning.specs.Meaning.{is_input}
 use Rattle.smv_meaning.specs.laws.Booleans.{two_true}
 use Rattle.smv_items.specs.FlatItems.{Content, variable, definition, actual, Origin, origins_of, symbols_of, path_of, kind_of, content_type, type_or_truth, domain_members, content_members, PlainFlatItem, flat_item_of}
 use Rattle.smv_flat.specs.FlatForms.{forms_of, flat_of}
-use Rattle.smv_flat_laws.specs.FlatTruth.{Row}
+use Rattle.smv_flat.specs.FlatTruth.{Row}
 use Rattle.smv_flat_laws.specs.FlatLaws.{content_value, row_of}
 use Rattle.smv_flat_laws.proofs.FlatFound.{body_in, pair}
 use Rattle.smv_flat_laws.proofs.FlatRows.{row_is_there_law, item_there}

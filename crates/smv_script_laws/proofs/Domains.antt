@@ -29,7 +29,7 @@ use Rattle.smv_laws.proofs.FoundLaws.{of_type_lies}
 use Rattle.smv_meaning.specs.Names.{is_symbol, domain_has}
 use Rattle.smv_laws.proofs.Cycles.{In, in_any}
 use Rattle.smv_items.specs.FlatItems.{domain_members}
-use Rattle.smv_flat_laws.specs.FlatTruth.{symbol_or_none, symbol_value}
+use Rattle.smv_flat.specs.FlatTruth.{symbol_or_none, symbol_value}
 use Rattle.name_maps.specs.Names.{place_of}
 use Rattle.moxi_terms.specs.declared.data.Datum.{Datum}
 use Rattle.moxi_terms.specs.declared.data.Datum.TheVariants as datum
@@ -40,8 +40,8 @@ use Rattle.moxi_terms.specs.Sorts.{IsConstant, IsOf}
 use Rattle.moxi_terms.specs.Tree.{Tree, trees_of}
 use Rattle.moxi_terms.specs.Value.{Calls, Values, term_value, term_values}
 use Rattle.moxi_scripts.specs.Behaviour.{Holds}
-use Rattle.smv_width.specs.FlatWidth.{integers_width, interval_width}
-use Rattle.smv_width.specs.FlatWidth.{Holds as Fits}
+use Rattle.smv_flat.specs.FlatWidth.{integers_width, interval_width}
+use Rattle.smv_flat.specs.FlatWidth.{Holds as Fits}
 use Rattle.smv_width.proofs.WidthLaw.{interval_width_is_least}
 use Rattle.smv_script.specs.Codes.{integer_bits, integer_word, number_or_zero, datum_of, value_of, sort_of}
 use Rattle.smv_script.specs.Operators.{between_term}

@@ -5,7 +5,7 @@ use Rattle.smv_laws.proofs.SafeExpressions.{accepted_is_checked_law}
 use Rattle.smv_accepted.proofs.Literals.{words_fit_law}
 use Rattle.smv_flat.specs.FlatForms.{flat_of}
 use Rattle.smv_accepted.proofs.ItemNames.{names_differ_law}
-use Rattle.smv_width.specs.FlatWidth.{width_of}
+use Rattle.smv_flat.specs.FlatWidth.{width_of}
 use Rattle.smv_width.proofs.SpelledWidths.{instances_operators}
 use Rattle.smv_accepted.proofs.Widths.{width_is_small_law}
 use Rattle.smv_script_laws.specs.EnvironmentLaws.{EnvironmentsAreRows, RowsHaveEnvironments}

@@ -19,8 +19,8 @@ use Rattle.smv_flat.specs.declared.forms.Role.{Role}
 use Rattle.smv_flat.specs.declared.forms.Role.TheVariants.{Body, Assign, Init, Trans, Invar, Invariant}
 use Rattle.smv_flat.specs.FlatTree.{FlatTree}
 use Rattle.smv_flat.specs.FlatForms.{Form, flat_of}
-use Rattle.smv_flat_laws.specs.FlatTruth.{Row, form_denotes, role_holds, role_invariant, forms_invariants, is_false_in}
-use Rattle.smv_width.specs.FlatWidth.{items_width}
+use Rattle.smv_flat.specs.FlatTruth.{Row, form_denotes, role_holds, role_invariant, forms_invariants, is_false_in}
+use Rattle.smv_flat.specs.FlatWidth.{items_width}
 use Rattle.moxi_terms.specs.declared.data.Datum.TheVariants as datum
 use Rattle.moxi_terms.specs.Operators.{truth_of}
 use Rattle.moxi_terms.specs.Tree.{Tree, variable}

@@ -27,7 +27,7 @@ use Rattle.moxi_terms.specs.declared.data.TermOp.TheVariants as op
 use Rattle.moxi_terms.specs.Operators.{word_of, folded, op_value}
 use Rattle.moxi_terms.specs.Tree.{Tree, bound, apply, Trees, no_trees, tree}
 use Rattle.moxi_terms.specs.Value.{Calls, Values, at, term_value, term_values}
-use Rattle.smv_width.specs.FlatWidth.{Holds}
+use Rattle.smv_flat.specs.FlatWidth.{Holds}
 use Rattle.smv_script.specs.Codes.{integer_bits, integer_word, datum_of}
 use Rattle.smv_script.specs.Operators.{Arguments, integer_term, is_below, counted_term, counted_terms, sum_term, extended_term, selected_term, resized_term, function_term}
 use Rattle.smv_script_laws.specs.Kinds.{IsOfKind}

@@ -10,7 +10,7 @@ use borrow.Author.Differences.{up, down}
 use Rattle.word_core.specs.Table.{signed_value, is_minus, negated, negated_if, magnitude, quotient, rest}
 use Rattle.smv_meaning.specs.Operators.{int_mod}
 use Rattle.smv_laws.proofs.Intervals.{mod_is}
-use Rattle.smv_width.specs.FlatWidth.{Holds}
+use Rattle.smv_flat.specs.FlatWidth.{Holds}
 use Rattle.smv_script.specs.Codes.{integer_bits}
 
 -- ---- congruence

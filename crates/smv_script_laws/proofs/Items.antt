@@ -14,9 +14,9 @@ use Rattle.smv_items.specs.FlatItems.{Content, variable, definition, actual, sym
 use Rattle.smv_flat.specs.declared.forms.Role.{Role}
 use Rattle.smv_flat.specs.declared.forms.Role.TheVariants.{Body, Assign, Init, Trans, Invar, Invariant}
 use Rattle.smv_flat.specs.FlatForms.{Form, flat_of}
-use Rattle.smv_flat_laws.specs.FlatTruth.{Row, form_denotes, MeetsRole, MeetsForms, kind_stays, items_stay}
+use Rattle.smv_flat.specs.FlatTruth.{Row, form_denotes, MeetsRole, MeetsForms, kind_stays, items_stay}
 use Rattle.smv_flat_laws.proofs.FlatRows.{HasContent, row_reads, has_items, item_there}
-use Rattle.smv_width.specs.FlatWidth.{integers_width, items_width}
+use Rattle.smv_flat.specs.FlatWidth.{integers_width, items_width}
 use Rattle.moxi_terms.specs.declared.data.Datum.TheVariants as datum
 use Rattle.moxi_terms.specs.Operators.{truth_of, same}
 use Rattle.moxi_terms.specs.Tree.{Tree, variable as of_variable}

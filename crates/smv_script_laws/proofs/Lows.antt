@@ -21,7 +21,7 @@ use Rattle.smv_flat.specs.declared.forms.Role.{Role}
 use Rattle.smv_flat.specs.declared.forms.Role.TheVariants.{Body, Assign, Init, Trans, Invar, Invariant}
 use Rattle.smv_flat.specs.FlatForms.{Form, PlainFlat, flat_of}
 use Rattle.smv_flat.specs.FlatTree.{FlatTree}
-use Rattle.smv_flat_laws.specs.FlatTruth.{role_invariant, forms_invariants}
+use Rattle.smv_flat.specs.FlatTruth.{role_invariant, forms_invariants}
 use Rattle.moxi_terms.specs.Tree.{Tree, variable, trees_of}
 use Rattle.moxi_scripts.specs.Script.{PlainFormula}
 use Rattle.moxi_flat.specs.Terms.{term_height, terms_height}

@@ -18,7 +18,7 @@ use Rattle.smv_meaning.specs.Owed.{HasType}
 use Rattle.smv_meaning.specs.laws.Booleans.{both_true, two_true, or_true, absurd_bool}
 use mathlib.Core.Logic.{⊎_elim}
 use Rattle.smv_items.specs.FlatItems.{type_or_truth, domain_members}
-use Rattle.smv_width.specs.FlatWidth.{Holds as HoldsInteger, integers_width, interval_width}
+use Rattle.smv_flat.specs.FlatWidth.{Holds as HoldsInteger, integers_width, interval_width}
 use Rattle.smv_width.proofs.WidthLaw.{interval_width_is_least}
 use Rattle.moxi_terms.specs.declared.data.Datum.{Datum}
 use Rattle.moxi_terms.specs.declared.data.Datum.TheVariants as datum

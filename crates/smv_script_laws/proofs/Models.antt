@@ -23,13 +23,13 @@ use Rattle.smv_laws.proofs.Typable.{has_type}
 use Rattle.smv_laws.proofs.CheckedLaws.{AllTyped, checked_at, all_given, all_typed}
 use Rattle.smv_items.specs.FlatItems.{Leaf, of_item, of_symbol, of_nothing, Content, variable, definition, actual, Origin, origins_of, symbols_of, is_item, item_leaf, symbol_leaf, leaf_found, content_type, type_or_truth, PlainFlatItem, flat_item_of}
 use Rattle.smv_flat.specs.FlatForms.{Form, forms_of, flat_of}
-use Rattle.smv_flat_laws.specs.FlatTruth.{Row, symbol_or_none, symbol_value}
+use Rattle.smv_flat.specs.FlatTruth.{Row, symbol_or_none, symbol_value}
 use Rattle.smv_flat_laws.proofs.FlatSame.{leaf_value}
 use Rattle.smv_flat_laws.proofs.FlatRows.{all_at, item_there}
 use Rattle.name_maps.specs.Names.{place_of}
 use Rattle.moxi_terms.specs.declared.data.Datum.TheVariants as datum
 use Rattle.moxi_terms.specs.Value.{Values}
-use Rattle.smv_width.specs.FlatWidth.{integers_width, tree_width, items_width, forms_width, width_of}
+use Rattle.smv_flat.specs.FlatWidth.{integers_width, tree_width, items_width, forms_width, width_of}
 use Rattle.smv_width.specs.SourceWidth.{has_operators}
 use Rattle.smv_script.specs.Codes.{number_or_zero, datum_of}
 use Rattle.smv_script_laws.specs.Kinds.{IsKnown}

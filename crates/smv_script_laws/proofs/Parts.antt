@@ -23,7 +23,7 @@ use Rattle.smv_laws.proofs.OperatorLaws.{NumberIs, implied_lies, DivisorIs}
 use Rattle.smv_laws.proofs.TypeLaws.{all_cons, number_is}
 use Rattle.smv_items.specs.FlatItems.{Leaf, of_item, of_symbol, of_nothing}
 use Rattle.smv_flat.specs.FlatTree.{flat_tree}
-use Rattle.smv_width.specs.FlatWidth.{Holds, interval_width, integers_width}
+use Rattle.smv_flat.specs.FlatWidth.{Holds, interval_width, integers_width}
 use Rattle.smv_width.proofs.WidthLaw.{interval_width_is_least}
 use Rattle.moxi_terms.specs.declared.data.Datum.{Datum}
 use Rattle.moxi_terms.specs.declared.data.Datum.TheVariants as datum

@@ -21,7 +21,7 @@ use Rattle.smv_items.specs.FlatItems.{origins_of}
 use Rattle.smv_flat.specs.FlatForms.{forms_of, flat_of, flat_smv}
 use Rattle.smv_flat_laws.proofs.FlatLaw.{all_assignable}
 use Rattle.smv_flat_laws.proofs.FlatTruths.{assigned_here}
-use Rattle.smv_width.specs.FlatWidth.{items_width, width_of}
+use Rattle.smv_flat.specs.FlatWidth.{items_width, width_of}
 use Rattle.smv_width.specs.SourceWidth.{greatest, instance_widths}
 use Rattle.smv_width.proofs.ModelWidths.{same_model_width}
 use Rattle.smv_width.proofs.SpelledWidths.{instances_operators}

@@ -8,7 +8,7 @@ use Rattle.smv_text.specs.Tree.{PlainAssignment}
 use Rattle.smv_items.specs.FlatItems.{Content, variable, definition, actual, Origin, items_here}
 use Rattle.smv_flat.specs.FlatForms.{Form, content_form, body_forms, assignment_form, element_forms, forms_here, forms_from, forms_of}
 use Rattle.smv_flat.specs.FlatTree.{FlatTree}
-use Rattle.smv_flat_laws.specs.FlatTruth.{role_invariant, forms_invariants}
+use Rattle.smv_flat.specs.FlatTruth.{role_invariant, forms_invariants}
 use Rattle.smv_script.specs.Script.{queries_from}
 use Rattle.smv_text.specs.Tree.{PlainSource}
 use Rattle.smv_meaning.specs.Instances.{instances_of}

@@ -8,7 +8,7 @@ use Rattle.smv_meaning.specs.Values.{Valuation}
 use Rattle.smv_meaning.specs.Instances.{Instance}
 use Rattle.smv_items.specs.FlatItems.{symbols_of, PlainFlatItem, flat_item_of}
 use Rattle.smv_flat.specs.FlatForms.{flat_of}
-use Rattle.smv_flat_laws.specs.FlatTruth.{Row}
+use Rattle.smv_flat.specs.FlatTruth.{Row}
 use Rattle.smv_flat_laws.specs.FlatLaws.{row_of}
 use Rattle.smv_flat_laws.proofs.FlatRows.{row_is_there_law, item_there}
 use Rattle.moxi_terms.specs.declared.data.Sort.{Sort}

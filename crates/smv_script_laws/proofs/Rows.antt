@@ -30,7 +30,7 @@ use Rattle.moxi_terms.specs.declared.data.TermOp.TheVariants as op
 use Rattle.moxi_terms.specs.Operators.{same, op_value}
 use Rattle.moxi_terms.specs.Tree.{Tree, constant}
 use Rattle.moxi_terms.specs.Value.{Calls, Values, term_value}
-use Rattle.smv_width.specs.FlatWidth.{Holds}
+use Rattle.smv_flat.specs.FlatWidth.{Holds}
 use Rattle.smv_script.specs.Codes.{integer_bits, integer_word, number_or_zero, datum_of}
 use Rattle.smv_script.specs.Operators.{sign_op, repeated, signed_op, infix_op, infix_term}
 use Rattle.smv_script_laws.specs.Kinds.{IsOfKind}

@@ -14,9 +14,9 @@ use Rattle.smv_meaning.specs.Runs.{init_holds, invar_holds, trans_holds, frozen_
 use Rattle.smv_meaning.specs.laws.Booleans.{both_true, two_true}
 use Rattle.smv_flat.specs.FlatForms.{flat_smv}
 use Rattle.smv_flat_laws.specs.FlatLaws.{row_of, HasTruth}
-use Rattle.smv_flat_laws.specs.FlatTruth.{forms_invariants}
+use Rattle.smv_flat.specs.FlatTruth.{forms_invariants}
 use Rattle.smv_flat_laws.proofs.FlatLaw.{same_truth_law}
-use Rattle.smv_width.specs.FlatWidth.{width_of}
+use Rattle.smv_flat.specs.FlatWidth.{width_of}
 use Rattle.moxi_terms.specs.Value.{Calls, Values}
 use Rattle.moxi_scripts.specs.Script.{formula_at}
 use Rattle.moxi_scripts.specs.Behaviour.{Holds}

@@ -16,7 +16,7 @@ use Rattle.smv_laws.proofs.SafeExpressions.{accepted_is_checked_law}
 use Rattle.smv_flat.specs.FlatForms.{flat_smv}
 use Rattle.smv_accepted.proofs.ItemNames.{names_are_distinct_law}
 use Rattle.smv_accepted.proofs.Literals.{words_fit_law}
-use Rattle.smv_width.specs.FlatWidth.{width_of}
+use Rattle.smv_flat.specs.FlatWidth.{width_of}
 use Rattle.smv_width.proofs.SpelledWidths.{instances_operators}
 use Rattle.moxi_terms.specs.Value.{Calls, Values}
 use Rattle.moxi_scripts.specs.Script.{calls_in, query_of}

@@ -20,7 +20,7 @@ use Rattle.smv_laws.proofs.Settling.{Under, under_more, all_under, body_under, d
 use Rattle.smv_items.specs.FlatItems.{Leaf, Content, variable, definition, actual, Origin, origins_of, symbols_of, is_variable_as, path_of, is_item, item_leaf, symbol_leaf, leaf_found, content_type}
 use Rattle.smv_flat.specs.declared.forms.Role.TheVariants.{Body}
 use Rattle.smv_flat.specs.FlatForms.{Form, flat_in, content_form, forms_of}
-use Rattle.smv_flat_laws.specs.FlatTruth.{Row}
+use Rattle.smv_flat.specs.FlatTruth.{Row}
 use Rattle.smv_flat_laws.specs.FlatLaws.{content_value, origin_value, row_of}
 use Rattle.smv_flat_laws.proofs.FlatFound.{body_in, pair, body_at_item}
 use Rattle.smv_flat_laws.proofs.FlatRows.{row_leaf, row_reads, row_values, row_is_there_law, pair_parts}
@@ -29,7 +29,7 @@ use Rattle.moxi_terms.specs.Operators.{same}
 use Rattle.moxi_terms.specs.Tree.{variable as moxi_variable}
 use Rattle.moxi_terms.specs.Value.{Calls, Values, term_value}
 use Rattle.moxi_scripts.specs.Behaviour.{Holds}
-use Rattle.smv_width.specs.FlatWidth.{tree_width}
+use Rattle.smv_flat.specs.FlatWidth.{tree_width}
 use Rattle.smv_script.specs.Codes.{value_of}
 use Rattle.smv_script.specs.Terms.{Coding, translation}
 use Rattle.smv_script.specs.Script.{body_part, body_parts}

@@ -11,7 +11,7 @@ use Rattle.smv_laws.proofs.SafeExpressions.{accepted_is_checked_law, acyclic}
 use Rattle.smv_items.specs.FlatItems.{Leaf, of_item, of_symbol, of_nothing, origins_of, symbols_of, type_or_truth, PlainFlatItem, flat_item_of, leaf_in}
 use Rattle.smv_flat.specs.FlatTree.{leaf_tree}
 use Rattle.smv_flat.specs.FlatForms.{flat_of, flat_smv}
-use Rattle.smv_width.specs.FlatWidth.{width_of}
+use Rattle.smv_flat.specs.FlatWidth.{width_of}
 use Rattle.smv_accepted.proofs.ItemNames.{names_differ_law}
 use Rattle.smv_accepted.proofs.Widths.{width_is_small_law}
 use Rattle.moxi_terms.specs.declared.data.Sort.TheVariants as sort

@@ -12,7 +12,7 @@ use Rattle.smv_text.specs.declared.operators.Function.{Function}
 use Rattle.smv_text.specs.declared.operators.Function.TheVariants as OfFunction
 use Rattle.smv_meaning.specs.Types.{ExprType, integer_type, is_truth_type, is_integer_type, is_word_type, type_width, over_both_ends, function_fits, first_type}
 use Rattle.smv_meaning.specs.laws.Booleans.{both_true, absurd_bool}
-use Rattle.smv_width.specs.FlatWidth.{Holds}
+use Rattle.smv_flat.specs.FlatWidth.{Holds}
 use Rattle.moxi_terms.specs.declared.data.Sort.{Sort}
 use Rattle.moxi_terms.specs.declared.data.Sort.TheVariants.{Truth, Bits}
 use Rattle.moxi_terms.specs.declared.data.TermOp.TheVariants as op

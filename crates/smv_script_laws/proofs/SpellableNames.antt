@@ -19,8 +19,8 @@ use Rattle.smv_flat.specs.declared.forms.Role.{Role}
 use Rattle.smv_flat.specs.declared.forms.Role.TheVariants.{Body, Assign, Init, Trans, Invar, Invariant}
 use Rattle.smv_flat.specs.FlatTree.{FlatTree}
 use Rattle.smv_flat.specs.FlatForms.{Form, PlainFlat, flat_smv}
-use Rattle.smv_flat_laws.specs.FlatTruth.{forms_invariants}
-use Rattle.smv_width.specs.FlatWidth.{width_of}
+use Rattle.smv_flat.specs.FlatTruth.{forms_invariants}
+use Rattle.smv_flat.specs.FlatWidth.{width_of}
 use Rattle.smv_accepted.specs.Names.{is_name_byte, is_dotted_byte, IsIdentifier, IsDottedName}
 use Rattle.smv_accepted.proofs.ItemNames.{names_are_words_law, symbols_are_words_law}
 use Rattle.smv_items.specs.laws.Differing.{all_weaker}

@@ -19,10 +19,10 @@ use Rattle.smv_laws.proofs.ValueLaws.{paths_lie_law}
 use Rattle.smv_items.specs.FlatItems.{leaf_in, symbols_of}
 use Rattle.smv_flat.specs.FlatTree.{FlatTree}
 use Rattle.smv_flat.specs.FlatForms.{flat_in}
-use Rattle.smv_flat_laws.specs.FlatTruth.{Row}
+use Rattle.smv_flat.specs.FlatTruth.{Row}
 use Rattle.smv_flat_laws.proofs.FlatRows.{row_reads}
 use Rattle.moxi_terms.specs.Value.{Calls, Values}
-use Rattle.smv_width.specs.FlatWidth.{tree_width}
+use Rattle.smv_flat.specs.FlatWidth.{tree_width}
 use Rattle.smv_width.specs.SourceWidth.{expression_width}
 use Rattle.smv_width.proofs.SourceWidths.{same_width}
 use Rattle.smv_script.specs.Terms.{Coding, translation}

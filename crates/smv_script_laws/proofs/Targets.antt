@@ -20,10 +20,10 @@ use Rattle.smv_laws.proofs.FoundLaws.{of_type_lies}
 use Rattle.smv_laws.proofs.ValueLaws.{paths_lie_law}
 use Rattle.smv_items.specs.FlatItems.{of_item, Content, variable, definition, actual, Origin, is_variable_as, item_leaf, leaf_found, path_of, origins_of, symbols_of, content_type, type_or_truth, PlainFlatItem, flat_item_of}
 use Rattle.smv_flat.specs.FlatForms.{number_or_first, flat_of}
-use Rattle.smv_flat_laws.specs.FlatTruth.{Row}
+use Rattle.smv_flat.specs.FlatTruth.{Row}
 use Rattle.smv_flat_laws.proofs.FlatFound.{variable_at_item, Home, home_found, both}
 use Rattle.smv_flat_laws.proofs.FlatRows.{HasContent, row_leaf, row_reads, row_values, has_items, item_there}
-use Rattle.smv_width.specs.FlatWidth.{Holds, integers_width, items_width}
+use Rattle.smv_flat.specs.FlatWidth.{Holds, integers_width, items_width}
 use Rattle.moxi_terms.specs.Operators.{nothing}
 use Rattle.moxi_terms.specs.Value.{Calls, Values}
 use Rattle.smv_script.specs.Codes.{datum_of}

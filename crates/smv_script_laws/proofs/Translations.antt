@@ -25,7 +25,7 @@ use Rattle.smv_laws.proofs.OperatorLaws.{infix_lies}
 use Rattle.smv_laws.proofs.TypeLaws.{NamesLie, fine, all_cons, divisor_is, number_is, false_true}
 use Rattle.smv_items.specs.FlatItems.{Leaf, of_item, of_symbol, of_nothing}
 use Rattle.smv_flat.specs.FlatTree.{leaf_tree, flat_tree, flat_links, flat_branches, flat_trees, flat_are_implies}
-use Rattle.smv_width.specs.FlatWidth.{Holds, interval_width, integers_width, node_width, operand_width, arguments_width}
+use Rattle.smv_flat.specs.FlatWidth.{Holds, interval_width, integers_width, node_width, operand_width, arguments_width}
 use Rattle.smv_width.specs.SourceWidth.{expression_width, implied_width, fronts_width, branch_width, part_width, front_width as first_part_width, has_operators, link_operators, branch_operators, part_operators}
 use Rattle.smv_width.proofs.WidthLaw.{interval_width_is_least}
 use Rattle.smv_width.proofs.SourceWidths.{source_node}

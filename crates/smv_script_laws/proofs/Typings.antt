@@ -15,7 +15,7 @@ use Rattle.smv_meaning.specs.laws.Booleans.{both_true, absurd_bool}
 use Rattle.smv_laws.proofs.TypeLaws.{all_cons, six_true, two_tests, three_tests, false_true}
 use Rattle.smv_items.specs.FlatItems.{Leaf, of_item, of_symbol, of_nothing}
 use Rattle.smv_flat.specs.FlatTree.{leaf_tree, unless_set, is_set, has_set, flat_tree, flat_links, flat_are_implies}
-use Rattle.smv_width.specs.FlatWidth.{flat_type}
+use Rattle.smv_flat.specs.FlatWidth.{flat_type}
 use Rattle.smv_width.specs.SourceWidth.{has_link, has_operators, link_operators, branch_operators}
 use Rattle.smv_script.specs.Terms.{are_flat_unions}
 use Rattle.smv_flat_laws.proofs.FlatTruths.{not_true}

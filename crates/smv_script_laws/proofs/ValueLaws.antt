@@ -20,7 +20,7 @@ use Rattle.smv_laws.proofs.TypeLaws.{NamesLie}
 use Rattle.smv_laws.proofs.ValueLaws.{paths_lie_law}
 use Rattle.smv_items.specs.FlatItems.{Leaf, of_item, of_symbol, of_nothing, origins_of, symbols_of, leaf_in}
 use Rattle.smv_flat.specs.FlatForms.{flat_in, flat_of}
-use Rattle.smv_flat_laws.specs.FlatTruth.{Row, symbol_or_none, symbol_value}
+use Rattle.smv_flat.specs.FlatTruth.{Row, symbol_or_none, symbol_value}
 use Rattle.smv_flat_laws.proofs.FlatSame.{leaf_value}
 use Rattle.smv_flat_laws.proofs.FlatRows.{row_values}
 use Rattle.smv_flat_laws.proofs.FlatTruths.{flat_value}

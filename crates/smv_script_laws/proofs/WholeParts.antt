@@ -27,8 +27,8 @@ use Rattle.smv_flat.specs.declared.forms.Role.{Role}
 use Rattle.smv_flat.specs.declared.forms.Role.TheVariants.{Body, Assign, Init, Trans, Invar, Invariant}
 use Rattle.smv_flat.specs.FlatTree.{FlatTree}
 use Rattle.smv_flat.specs.FlatForms.{Form, flat_of}
-use Rattle.smv_flat_laws.specs.FlatTruth.{forms_invariants, role_invariant}
-use Rattle.smv_width.specs.FlatWidth.{tree_width, forms_width}
+use Rattle.smv_flat.specs.FlatTruth.{forms_invariants, role_invariant}
+use Rattle.smv_flat.specs.FlatWidth.{tree_width, forms_width}
 use Rattle.smv_width.proofs.SourceWidths.{same_width}
 use Rattle.name_maps.specs.Names.{place_of}
 use Rattle.moxi_terms.specs.declared.data.Sort.{Sort}

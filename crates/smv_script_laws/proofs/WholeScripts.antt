@@ -27,10 +27,10 @@ use Rattle.smv_accepted.proofs.Literals.{words_fit_law}
 use Rattle.smv_items.specs.FlatItems.{origins_of, symbols_of}
 use Rattle.smv_flat.specs.FlatTree.{FlatTree}
 use Rattle.smv_flat.specs.FlatForms.{Form, forms_of, flat_of, flat_smv}
-use Rattle.smv_flat_laws.specs.FlatTruth.{forms_invariants}
+use Rattle.smv_flat.specs.FlatTruth.{forms_invariants}
 use Rattle.smv_flat_laws.proofs.FlatTruths.{assigned_here}
 use Rattle.smv_flat_laws.proofs.FlatLaw.{all_assignable}
-use Rattle.smv_width.specs.FlatWidth.{tree_width, width_of}
+use Rattle.smv_flat.specs.FlatWidth.{tree_width, width_of}
 use Rattle.smv_width.specs.SourceWidth.{has_operators}
 use Rattle.smv_width.proofs.SpelledWidths.{instances_operators}
 use Rattle.smv_accepted.proofs.ItemNames.{names_differ_law}

@@ -15,7 +15,7 @@ use Rattle.smv_meaning.specs.Runs.{state_fits, label_fits}
 use Rattle.smv_items.specs.FlatItems.{PlainFlatItem}
 use Rattle.smv_flat.specs.FlatForms.{PlainFlat, flat_of, flat_smv}
 use Rattle.smv_flat_laws.specs.FlatLaws.{row_of}
-use Rattle.smv_width.specs.FlatWidth.{width_of}
+use Rattle.smv_flat.specs.FlatWidth.{width_of}
 use Rattle.moxi_terms.specs.Tree.{sorts_of}
 use Rattle.moxi_terms.specs.Value.{Calls, Values}
 use Rattle.moxi_scripts.specs.Script.{variables_in}

@@ -11,8 +11,8 @@ use Rattle.smv_meaning.specs.Instances.{instances_of}
 use Rattle.smv_meaning.specs.Phases.{IsAccepted}
 use Rattle.smv_meaning.specs.Values.{Valuation}
 use Rattle.smv_flat.specs.FlatForms.{PlainFlat, flat_smv}
-use Rattle.smv_flat_laws.specs.FlatTruth.{Row, flat_init, flat_invar, flat_trans, flat_stay, flat_broken, forms_invariants}
-use Rattle.smv_width.specs.FlatWidth.{width_of}
+use Rattle.smv_flat.specs.FlatTruth.{Row, flat_init, flat_invar, flat_trans, flat_stay, flat_broken, forms_invariants}
+use Rattle.smv_flat.specs.FlatWidth.{width_of}
 use Rattle.moxi_terms.specs.Value.{Calls, Values}
 use Rattle.moxi_scripts.specs.Script.{formula_at}
 use Rattle.moxi_scripts.specs.Behaviour.{Holds}

@@ -5,7 +5,7 @@ use Rattle.smv_meaning.specs.declared.value.Value.{Value}
 use Rattle.smv_meaning.specs.declared.value.Value.TheVariants.{Truth, Integer, Symbol, Bits}
 use Rattle.smv_meaning.specs.Types.{ExprType, truth_type, integer_type, symbol_type, word_type}
 use Rattle.name_maps.specs.Names.{place_of}
-use Rattle.smv_width.specs.FlatWidth.{Holds}
+use Rattle.smv_flat.specs.FlatWidth.{Holds}
 
 -- a symbol is one of the model's
 abbrev pub IsKnown : List (List ℕ) → Value → Type 0

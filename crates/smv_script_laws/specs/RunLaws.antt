@@ -11,7 +11,7 @@ use Rattle.smv_meaning.specs.Instances.{instances_of}
 use Rattle.smv_meaning.specs.Phases.{IsAccepted, invariants_in}
 use Rattle.smv_meaning.specs.Runs.{IsRun, LastBreaks}
 use Rattle.smv_flat.specs.FlatForms.{flat_smv}
-use Rattle.smv_width.specs.FlatWidth.{width_of}
+use Rattle.smv_flat.specs.FlatWidth.{width_of}
 use Rattle.moxi_scripts.specs.Behaviour.{Trace}
 use Rattle.moxi_scripts.specs.Meeting.{MeetsQuery}
 use Rattle.smv_script.specs.Script.{coding_of, script_for}

@@ -12,7 +12,7 @@ use Rattle.smv_meaning.specs.Runs.{state_fits, label_fits}
 use Rattle.smv_meaning.specs.Settled.{Acyclic, types_in}
 use Rattle.smv_items.specs.FlatItems.{symbols_of}
 use Rattle.smv_flat.specs.FlatForms.{flat_in, flat_of}
-use Rattle.smv_flat_laws.specs.FlatTruth.{Row, IsRow, form_denotes}
+use Rattle.smv_flat.specs.FlatTruth.{Row, IsRow, form_denotes}
 use Rattle.smv_width.specs.SourceWidth.{expression_width, has_operators}
 use Rattle.name_maps.specs.Names.{place_of}
 use Rattle.moxi_terms.specs.declared.data.Datum.{Datum}

@@ -11,7 +11,7 @@ use Rattle.smv_meaning.specs.Checks.{Position, typing}
 use Rattle.smv_meaning.specs.Phases.{IsAccepted}
 use Rattle.smv_meaning.specs.Settled.{types_in}
 use Rattle.smv_flat.specs.FlatForms.{PlainFlat, flat_in, flat_of, flat_smv}
-use Rattle.smv_width.specs.FlatWidth.{width_of}
+use Rattle.smv_flat.specs.FlatWidth.{width_of}
 use Rattle.smv_width.specs.SourceWidth.{expression_width, has_operators}
 use Rattle.moxi_terms.specs.declared.data.Primes.{Primes}
 use Rattle.moxi_term_reading.specs.Reading.{Context}

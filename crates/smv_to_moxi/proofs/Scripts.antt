@@ -11,7 +11,7 @@ use Rattle.smv_flat.specs.FlatFormulas.{form_plain}
 use Rattle.smv_flat.specs.FlatTree.{FlatTree}
 use Rattle.smv_flat.specs.FlatView.{plain_flat}
 use Rattle.smv_flat.specs.laws.FlatSteps.{drop_item}
-use Rattle.smv_flat_laws.specs.FlatTruth.{forms_invariants, role_invariant}
+use Rattle.smv_flat.specs.FlatTruth.{forms_invariants, role_invariant}
 use Rattle.moxi_scripts.specs.declared.script.Formula.{Formula}
 use Rattle.moxi_scripts.specs.declared.script.Query.{Query}
 use Rattle.moxi_terms.specs.View.{ScopeState}

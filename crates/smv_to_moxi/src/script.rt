@@ -8,7 +8,7 @@ ghost use Rattle.smv_items.specs.FlatItemView.{item_plain};
 ghost use Rattle.smv_flat.specs.FlatFormulas.{form_plain};
 ghost use Rattle.smv_flat.specs.FlatParts.{parts_plain};
 ghost use Rattle.smv_flat.specs.FlatView.{plain_flat};
-ghost use Rattle.smv_flat_laws.specs.FlatTruth.{forms_invariants};
+ghost use Rattle.smv_flat.specs.FlatTruth.{forms_invariants};
 ghost use Rattle.smv_script.specs.Ranges.{excess, forms_excess};
 ghost use Rattle.smv_script.specs.Script.{coding_of, place_of_item, queries_from, reachables_from};
 ghost use Rattle.smv_script_terms.specs.Depths.{depth, forms_depth};

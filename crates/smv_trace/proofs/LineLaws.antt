@@ -3,7 +3,7 @@ use Rattle.std.proofs.Common.{◌≡◌, ◌==◌, ℕ, suc, Bool, true, false, 
 use Rattle.text_core.specs.declared.place.Place.{Place}
 use Rattle.text_core.specs.declared.place.Refusal.{Refusal}
 use Rattle.smv_text.specs.Bytes.{front_length}
-use Rattle.smv_trace.specs.Runs.{Declarations}
+use Rattle.smv_numbered.specs.Stated.{Declarations}
 use Rattle.smv_trace_text.specs.Lines.{onto_first, lines_of, behind_line, trimmed, is_other}
 use Rattle.smv_trace.specs.Reading.{Reading, step, finished}
 use Rattle.smv_trace.specs.Texts.{lines_read}

@@ -9,7 +9,7 @@ use Rattle.smv_text.specs.Numbers.{literal_of, based_word, past_sign}
 use Rattle.smv_text.specs.declared.token.TokenKind.TheVariants as kind
 use Rattle.smv_lex.specs.Spelling.{literal_bytes, spelled}
 use Rattle.smv_lex.proofs.Printed.{printed_as}
-use Rattle.smv_trace.specs.Runs.{is_word_of}
+use Rattle.smv_numbered.specs.Stated.{is_word_of}
 use Rattle.smv_lex.proofs.LexedAgain.{based_is_word}
 
 -- ---- what is read

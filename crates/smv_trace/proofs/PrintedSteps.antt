@@ -21,7 +21,7 @@ use Rattle.smv_trace_text.specs.Lines.{lines_of, behind_line, trimmed}
 use Rattle.smv_trace_text.specs.Texts.{value_text, value_line, heading_text}
 use Rattle.smv_numbered.specs.declared.heading.Heading.{Heading}
 use Rattle.smv_numbered.specs.declared.heading.Heading.TheVariants.{State, Input}
-use Rattle.smv_trace.specs.Runs.{Declarations, names_each}
+use Rattle.smv_numbered.specs.Stated.{Declarations, names_each}
 use Rattle.smv_numbered.specs.Values.{picks}
 use Rattle.smv_trace.specs.Values.{value_of}
 use Rattle.smv_trace.specs.Reading.{Reading, ended, is_within, is_numbered, is_allowed, begun, is_define, with_value, item_line, placed_line, value_step, label_step, other_step, step}

@@ -20,7 +20,7 @@ use Rattle.smv_meaning.specs.Types.{ExprType, truth_type, integer_type, symbol_t
 use Rattle.name_maps.specs.Names.{place_of}
 use Rattle.name_maps.specs.laws.Places.{placed}
 use Rattle.smv_trace_text.specs.Texts.{value_text}
-use Rattle.smv_trace.specs.Runs.{can_be_stated, is_word_of}
+use Rattle.smv_numbered.specs.Stated.{can_be_stated, is_word_of}
 use Rattle.smv_trace.specs.Values.{truth_of, negative_of, integer_of, symbol_at, word_as, value_of}
 use Rattle.smv_trace.proofs.Solid.{is_solid, is_named, all_both, decimal_digits, decimal_solid, named_solid, named_some}
 use Rattle.smv_trace.proofs.Literals.{of_word, literal_again}

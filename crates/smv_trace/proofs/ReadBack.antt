@@ -20,7 +20,7 @@ use Rattle.smv_trace_text.specs.Lines.{lines_of, behind_line}
 use Rattle.smv_trace_text.specs.Texts.{is_input, has_inputs, value_line, heading_text, state_text, label_text, following_text, steps_text, claim_front, claim_back, trace_text}
 use Rattle.smv_numbered.specs.declared.heading.Heading.{Heading}
 use Rattle.smv_numbered.specs.declared.heading.Heading.TheVariants.{State, Input}
-use Rattle.smv_trace.specs.Runs.{Declarations, names_each, names_variables}
+use Rattle.smv_numbered.specs.Stated.{Declarations, names_each, names_variables}
 use Rattle.smv_numbered.specs.Values.{picks, given_if, values_of, nothing_stated}
 use Rattle.smv_trace.specs.Reading.{Reading, lacks, lacks_state, labels_on, with_state, ended, most_states, most_values, variables_of, is_within, run_of, finished, begin}
 use Rattle.smv_trace.specs.Texts.{lines_read, most_bytes}

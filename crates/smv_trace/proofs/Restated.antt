@@ -15,7 +15,7 @@ use Rattle.smv_items.specs.declared.items.ItemKind.TheVariants as kind
 use Rattle.smv_items.specs.FlatItems.{PlainFlatItem}
 use Rattle.smv_numbered.specs.declared.heading.Heading.{Heading}
 use Rattle.smv_numbered.specs.declared.heading.Heading.TheVariants.{State, Input}
-use Rattle.smv_trace.specs.Runs.{can_be_stated, names_each}
+use Rattle.smv_numbered.specs.Stated.{can_be_stated, names_each}
 use Rattle.smv_numbered.specs.Values.{picks, given_if, values_of}
 use Rattle.smv_trace.specs.Reading.{lacks}
 

@@ -20,7 +20,7 @@ use Rattle.smv_items.specs.FlatItems.{PlainFlatItem}
 use Rattle.name_maps.specs.Names.{place_of}
 use Rattle.smv_numbered.specs.declared.heading.Heading.{Heading}
 use Rattle.smv_numbered.specs.declared.heading.Heading.TheVariants.{State, Input}
-use Rattle.smv_trace.specs.Runs.{Declarations, can_be_stated, names_each, names_variables, IsStatedRun}
+use Rattle.smv_numbered.specs.Stated.{Declarations, can_be_stated, names_each, names_variables, IsStatedRun}
 use Rattle.smv_numbered.specs.Values.{picks, given_if, values_of, nothing_stated}
 use Rattle.smv_trace_text.specs.Lines.{is_passed, heading_numbers, value_parts, behind_line, trimmed, lines_of}
 use Rattle.smv_trace.specs.Values.{truth_of, negative_of, integer_of, symbol_at, word_as, value_of}

@@ -11,7 +11,7 @@ use Rattle.smv_numbered.specs.declared.heading.Heading.{Heading}
 use Rattle.smv_numbered.specs.declared.heading.Heading.TheVariants.{State, Input}
 use Rattle.smv_meaning.specs.declared.value.Value.{Value}
 use Rattle.smv_items.specs.FlatItems.{PlainFlatItem}
-use Rattle.smv_trace.specs.Runs.{Declarations}
+use Rattle.smv_numbered.specs.Stated.{Declarations}
 use Rattle.smv_numbered.specs.Values.{picks}
 use Rattle.smv_trace.specs.Values.{value_of}
 use Rattle.smv_trace_text.specs.Lines.{is_passed, heading_numbers}

@@ -25,7 +25,7 @@ use Rattle.smv_accepted.specs.Names.{is_name_byte, is_dotted_byte, IsIdentifier,
 use Rattle.smv_accepted.specs.NameLaws.{item_names}
 use Rattle.smv_accepted.proofs.ItemNames.{names_differ_law, names_are_words_law, symbols_are_words_law}
 use Rattle.smv_trace_text.specs.Texts.{trace_text}
-use Rattle.smv_trace.specs.Runs.{Declarations}
+use Rattle.smv_numbered.specs.Stated.{Declarations}
 use Rattle.smv_trace.specs.ReadBack.{ReadsBack, declared_by, PrintedReadsBack}
 use Rattle.smv_trace.specs.Answer.{declarations_of}
 use Rattle.smv_trace.proofs.Solid.{is_solid, is_named, all_weaker}

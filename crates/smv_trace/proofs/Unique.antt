@@ -2,7 +2,7 @@
 use Rattle.std.proofs.Common.{◌≡◌, ◌⊎◌, ℕ, List, Result, Ok, Err, inl, inr, refl}
 use Rattle.text_core.specs.declared.place.Refusal.{Refusal}
 use Rattle.smv_meaning.specs.declared.value.Run.{Run}
-use Rattle.smv_trace.specs.Runs.{Declarations}
+use Rattle.smv_numbered.specs.Stated.{Declarations}
 use Rattle.smv_trace.specs.Texts.{trace_of, ReadsTrace, RefusesTrace}
 
 same_run : (o : Result Run Refusal) (run other : Run) → o ≡ Ok run → o ≡ Ok other → run ≡ other

@@ -13,7 +13,7 @@ use Rattle.smv_flatten.specs.FlatModel.{FlatModel}
 use Rattle.smv_meaning.specs.declared.value.Run.{Run}
 use Rattle.smv_trace.specs.declared.fault.ValueFault.{ValueFault}
 use Rattle.smv_trace.specs.declared.fault.ValueFault.TheVariants as fault
-use Rattle.smv_trace.specs.Runs.{Declarations}
+use Rattle.smv_numbered.specs.Stated.{Declarations}
 use Rattle.smv_trace.specs.Reading.{Reading, run_of}
 use Rattle.text_core.specs.Answers.{Leaves}
 

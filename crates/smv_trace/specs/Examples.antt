@@ -9,7 +9,7 @@ use Rattle.smv_items.specs.declared.items.ItemKind.{ItemKind}
 use Rattle.smv_items.specs.declared.items.ItemKind.TheVariants as kind
 use Rattle.smv_items.specs.FlatItems.{PlainFlatItem}
 use Rattle.smv_trace_text.specs.Texts.{trace_text}
-use Rattle.smv_trace.specs.Runs.{Declarations}
+use Rattle.smv_numbered.specs.Stated.{Declarations}
 use Rattle.smv_trace.specs.Texts.{trace_of}
 
 abbrev pub item : List ℕ → ItemKind → ExprType → PlainFlatItem

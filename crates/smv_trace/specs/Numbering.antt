@@ -8,7 +8,7 @@ use Rattle.smv_numbered.specs.declared.heading.Heading.{Heading}
 use Rattle.smv_numbered.specs.declared.run.Change.{Change}
 use Rattle.smv_numbered.specs.Values.{picks, nothing_stated, stated_by}
 use Rattle.smv_numbered.specs.Runs.{states_of, labels_of, IsRising}
-use Rattle.smv_trace.specs.Runs.{Declarations}
+use Rattle.smv_numbered.specs.Stated.{Declarations}
 use Rattle.smv_trace.specs.Reading.{Reading}
 
 -- what the text is read against, the last heading and its place, the first number of the headings, the values that are stated,

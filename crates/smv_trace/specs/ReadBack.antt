@@ -9,7 +9,7 @@ use Rattle.smv_meaning.specs.declared.value.Run.{Run}
 use Rattle.smv_meaning.specs.Phases.{IsAccepted}
 use Rattle.smv_flat.specs.FlatForms.{PlainFlat, flat_smv}
 use Rattle.smv_trace_text.specs.Texts.{trace_text}
-use Rattle.smv_trace.specs.Runs.{Declarations, IsStatedRun}
+use Rattle.smv_numbered.specs.Stated.{Declarations, IsStatedRun}
 use Rattle.smv_trace.specs.Reading.{is_within}
 use Rattle.smv_trace.specs.Texts.{most_bytes, ReadsTrace}
 

@@ -15,7 +15,7 @@ use Rattle.text_core.specs.Places.{start}
 use Rattle.smv_numbered.specs.declared.heading.Heading.{Heading}
 use Rattle.smv_numbered.specs.declared.heading.Heading.TheVariants.{State, Input}
 use Rattle.smv_numbered.specs.Values.{picks, values_of, nothing_stated}
-use Rattle.smv_trace.specs.Runs.{Declarations}
+use Rattle.smv_numbered.specs.Stated.{Declarations}
 use Rattle.smv_trace_text.specs.Lines.{is_passed, heading_numbers, value_parts}
 use Rattle.smv_trace.specs.Values.{value_of}
 use Rattle.text_core.specs.Bytes.{is_empty}

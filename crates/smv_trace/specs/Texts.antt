@@ -5,7 +5,7 @@ use Rattle.text_core.specs.declared.place.Place.{Place}
 use Rattle.text_core.specs.declared.place.Refusal.{Refusal}
 use Rattle.text_core.specs.Places.{start, after}
 use Rattle.smv_meaning.specs.declared.value.Run.{Run}
-use Rattle.smv_trace.specs.Runs.{Declarations}
+use Rattle.smv_numbered.specs.Stated.{Declarations}
 use Rattle.smv_trace_text.specs.Lines.{lines_of, behind_line, trimmed}
 use Rattle.smv_trace.specs.Reading.{Reading, step, finished, begin}
 use Rattle.text_core.specs.Answers.{go_on, refused}

@@ -2,7 +2,7 @@
 ghost use Rattle.std.specs.Prelude.{◌≡◌, ◌⊎◌, ℕ, List};
 ghost use Rattle.text_core.specs.declared.place.Refusal.{Refusal};
 ghost use Rattle.smv_meaning.specs.declared.value.Run.{Run};
-ghost use Rattle.smv_trace.specs.Runs.{Declarations};
+ghost use Rattle.smv_numbered.specs.Stated.{Declarations};
 ghost use Rattle.smv_trace.specs.Texts.{ReadsTrace, RefusesTrace};
 ghost use Rattle.smv_trace.specs.ReadBack.{PrintedReadsBack};
 ghost use Rattle.smv_trace.specs.Examples.{PrintsAndReads, light, light_run, light_text, count, count_run, count_text, three, three_run, three_text};

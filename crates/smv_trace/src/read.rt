@@ -3,7 +3,7 @@ ghost use Rattle.std.specs.Prelude.{◌≡◌, ◌≤◌, ◌<◌, ◌+◌, ◌^
 ghost use Rattle.text_core.specs.Places.{start, after};
 ghost use Rattle.smv_numbered.specs.Runs.{IsNumbered, run_in};
 ghost use Rattle.smv_trace_text.specs.Lines.{lines_of, behind_line};
-ghost use Rattle.smv_trace.specs.Runs.{IsStatedRun};
+ghost use Rattle.smv_numbered.specs.Stated.{IsStatedRun};
 ghost use Rattle.smv_trace.specs.Reading.{is_within};
 ghost use Rattle.smv_trace.specs.Numbering.{reading_of};
 ghost use Rattle.smv_trace.specs.Texts.{lines_read, trace_of};

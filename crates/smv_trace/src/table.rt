@@ -24,7 +24,7 @@ pub struct Table<'a> {
 impl<'a> Model for Table<'a> {
     ghost use Rattle.std.specs.Prelude.{◌≡◌, map, length};
     ghost use Rattle.smv_items.specs.FlatItemView.{item_plain};
-    ghost use Rattle.smv_trace.specs.Runs.{Declarations};
+    ghost use Rattle.smv_numbered.specs.Stated.{Declarations};
     ghost use Rattle.smv_trace.specs.Reading.{variables_of};
 
     ghost Value = { Declarations };

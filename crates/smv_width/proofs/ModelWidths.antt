@@ -22,7 +22,7 @@ use Rattle.smv_laws.proofs.Typable.{split}
 use Rattle.smv_laws.proofs.SafeExpressions.{accepted_is_checked_law}
 use Rattle.smv_items.specs.FlatItems.{Content, variable, definition, actual, Origin, with_content, actual_content, actual_items, domain_content, variable_item, definition_item, element_items, items_here, leaf_in, content_type, type_or_truth, PlainFlatItem, flat_item_of}
 use Rattle.smv_flat.specs.FlatForms.{Form, flat_in, content_form, body_forms, assignment_form, element_forms, forms_here, forms_from}
-use Rattle.smv_width.specs.FlatWidth.{integers_width, node_width, tree_width, items_width, forms_width}
+use Rattle.smv_flat.specs.FlatWidth.{integers_width, node_width, tree_width, items_width, forms_width}
 use Rattle.smv_width.specs.SourceWidth.{expression_width, has_operators, greatest, element_widths, actual_width, actual_widths, instance_widths, SameModelWidth}
 use Rattle.smv_width.proofs.SourceWidths.{source_node, same_width}
 use Rattle.smv_width.proofs.SpelledWidths.{instances_operators}

@@ -16,7 +16,7 @@ use Rattle.smv_meaning.specs.laws.Booleans.{absurd_bool}
 use Rattle.smv_laws.proofs.Typable.{split}
 use Rattle.smv_items.specs.FlatItems.{Leaf, of_item, of_symbol, of_nothing}
 use Rattle.smv_flat.specs.FlatTree.{leaf_tree, FlatTree, flat_truth, flat_number, flat_literal, flat_symbol, flat_item, flat_prefix, flat_chain, flat_choice, flat_cases, flat_select, flat_call, flat_set, flat_range, flat_tree, flat_links, flat_branches, flat_trees, is_set, has_set, unless_set}
-use Rattle.smv_width.specs.FlatWidth.{integer_width, interval_width, integers_width, node_width, integer_within, front_by, flat_divisor, flat_type, operand_width, arguments_width, tree_width, links_width, branches_width, trees_width, first_width}
+use Rattle.smv_flat.specs.FlatWidth.{integer_width, interval_width, integers_width, node_width, integer_within, front_by, flat_divisor, flat_type, operand_width, arguments_width, tree_width, links_width, branches_width, trees_width, first_width}
 use Rattle.smv_width.specs.SourceWidth.{expression_width, implied_width, fronts_width, branch_width, part_width, front_width, has_link, has_operators, link_operators, branch_operators, part_operators, SameWidth}
 use Rattle.smv_width.proofs.WidthLaw.{node_some}
 

@@ -2,7 +2,7 @@
 use Rattle.std.proofs.Common.{◌≡◌, ℕ, ◌+◌, ◌-◌, ◌^◌, ◌<◌, ◌≤◌, ℤ, pos, negsuc, ◌≤ℤ◌, ap, arith}
 use Rattle.std.proofs.Math.Pow.{pow_mono}
 use Rattle.std.proofs.lemmas.Int.{ints}
-use Rattle.smv_width.specs.FlatWidth.{binary_digits, integer_width, interval_width, Holds, WidthIsLeast, IntervalWidthIsLeast}
+use Rattle.smv_flat.specs.FlatWidth.{binary_digits, integer_width, interval_width, Holds, WidthIsLeast, IntervalWidthIsLeast}
 use Rattle.smv_width.proofs.WidthLemmas.{digits_below, digits_most}
 
 -- ---- one integer

@@ -12,7 +12,7 @@ use Rattle.smv_flat.specs.declared.expressions.FlatShape.TheVariants as OfShape
 use Rattle.smv_flat.specs.declared.expressions.FlatLink.{FlatLink}
 use Rattle.smv_flat.specs.FlatTree.{FlatTree, FlatLinks, flat_chain, flat_link, flat_links_of}
 use Rattle.smv_flat.specs.FlatView.{flat_shape_step, plain_flat, plain_flat_link}
-use Rattle.smv_width.specs.FlatWidth.{digits_within, binary_digits, node_width, flat_type, flat_divisor, front_by, operand_width, tree_width, links_width}
+use Rattle.smv_flat.specs.FlatWidth.{digits_within, binary_digits, node_width, flat_type, flat_divisor, front_by, operand_width, tree_width, links_width}
 use Rattle.smv_flat.proofs.FlatViews.{link_at}
 
 -- ---- digits

@@ -1,2 +1,1 @@
-pub mod FlatWidth
 pub mod SourceWidth

@@ -16,7 +16,7 @@ use Rattle.smv_meaning.specs.Settled.{types_in}
 use Rattle.smv_items.specs.FlatItems.{Leaf}
 use Rattle.smv_flat.specs.FlatTree.{flat_tree}
 use Rattle.smv_flat.specs.FlatForms.{flat_smv}
-use Rattle.smv_width.specs.FlatWidth.{node_width, operand_width, arguments_width, tree_width, width_of}
+use Rattle.smv_flat.specs.FlatWidth.{node_width, operand_width, arguments_width, tree_width, width_of}
 
 -- The greatest width of an integer's interval among its subexpressions, and among the fronts of its chains that are read from the
 -- left; shift amounts and arguments that are numbers don't count.

@@ -5,7 +5,7 @@ ghost use Rattle.smv_meaning.specs.Types.{ExprType, infix_type_by};
 ghost use Rattle.smv_intervals.specs.View.{seen};
 ghost use Rattle.smv_intervals.specs.Limits.{FitsLimit};
 ghost use Rattle.smv_flat.specs.FlatView.{plain_flat};
-ghost use Rattle.smv_width.specs.FlatWidth.{integer_within, front_by, flat_number_of, flat_divisor};
+ghost use Rattle.smv_flat.specs.FlatWidth.{integer_within, front_by, flat_number_of, flat_divisor};
 
 use smv_flat::{FlatExpr, FlatShape};
 use smv_intervals::{Ty, infix_type};

@@ -1,5 +1,5 @@
 // Laws of widths. These functions do nothing.
-ghost use Rattle.smv_width.specs.FlatWidth.{WidthIsLeast, IntervalWidthIsLeast};
+ghost use Rattle.smv_flat.specs.FlatWidth.{WidthIsLeast, IntervalWidthIsLeast};
 ghost use Rattle.smv_width.specs.SourceWidth.{SameWidth, SameModelWidth};
 
 /// Proves that the width of an integer is the least width, at least 1, in which two's complement represents it.

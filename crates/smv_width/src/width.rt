@@ -6,8 +6,8 @@ ghost use Rattle.smv_flat.specs.FlatForms.{PlainFlat};
 ghost use Rattle.smv_flat.specs.FlatFormulas.{form_plain};
 ghost use Rattle.smv_items.specs.FlatItemView.{item_plain};
 ghost use Rattle.smv_flat.specs.FlatView.{plain_flat, plain_flat_link, plain_flat_branch};
-ghost use Rattle.smv_width.specs.FlatWidth.{binary_digits, integer_width, interval_width, integers_width, node_width, operand_width, arguments_width};
-ghost use Rattle.smv_width.specs.FlatWidth.{tree_width, links_width, branches_width, trees_width, first_width, items_width, forms_width, width_of};
+ghost use Rattle.smv_flat.specs.FlatWidth.{binary_digits, integer_width, interval_width, integers_width, node_width, operand_width, arguments_width};
+ghost use Rattle.smv_flat.specs.FlatWidth.{tree_width, links_width, branches_width, trees_width, first_width, items_width, forms_width, width_of};
 
 use crate::fronts::{divisor_of, front};
 use smv_flat::{FlatBranch, FlatExpr, FlatFormula, FlatLink, FlatShape};

@@ -3,7 +3,7 @@ ghost use Rattle.top_call.specs.Routes.{RoutesMeet};
 
 use moxi_script_print::{printed_scripts_are_spelled, valid_scripts_can_be_shown};
 use moxi_term_print::shown_is_read_back;
-use smv_models::models_have_flat_systems;
+use smv_commands::models_have_flat_systems;
 use smv_script_laws::{brackets_are_few, names_are_spellable, scripts_are_valid};
 
 /// Proves that both routes from an accepted model to BTOR2 give the same text.

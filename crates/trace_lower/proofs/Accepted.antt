@@ -20,7 +20,7 @@ use Rattle.smv_meaning.specs.Phases.{IsAccepted}
 use Rattle.smv_meaning.specs.Runs.{IsRun, LastBreaks, is_broken, label_fits, no_values, state_fits}
 use Rattle.smv_meaning.specs.Verdicts.{YesIsRun}
 use Rattle.smv_flat.specs.FlatForms.{flat_smv}
-use Rattle.smv_width.specs.FlatWidth.{width_of}
+use Rattle.smv_flat.specs.FlatWidth.{width_of}
 use Rattle.smv_flatten.specs.FlatModel.{IsRead}
 use Rattle.smv_judge.proofs.StepLaws.{own_label}
 use Rattle.smv_script.specs.Script.{check_of, script_for}

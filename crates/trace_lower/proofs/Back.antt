@@ -25,13 +25,13 @@ use Rattle.smv_items.specs.declared.items.ItemKind.{ItemKind}
 use Rattle.smv_items.specs.declared.items.ItemKind.TheVariants as kind
 use Rattle.smv_items.specs.FlatItems.{Origin, PlainFlatItem, flat_item_of, origins_of, path_of}
 use Rattle.smv_flat.specs.FlatForms.{PlainFlat, flat_smv}
-use Rattle.smv_flat_laws.specs.FlatTruth.{GivesItem, GivesKind}
+use Rattle.smv_flat.specs.FlatTruth.{GivesItem, GivesKind}
 use Rattle.smv_flat_laws.specs.FlatLaws.{row_of}
 use Rattle.smv_flat_laws.proofs.FlatRows.{item_there}
-use Rattle.smv_width.specs.FlatWidth.{width_of}
+use Rattle.smv_flat.specs.FlatWidth.{width_of}
 use Rattle.smv_width.proofs.SpelledWidths.{instances_operators}
 use Rattle.smv_flatten.specs.FlatModel.{IsRead}
-use Rattle.smv_trace.specs.Runs.{IsStatedRun, can_be_stated, names_each}
+use Rattle.smv_numbered.specs.Stated.{IsStatedRun, can_be_stated, names_each}
 use Rattle.smv_numbered.specs.Values.{picks}
 use Rattle.smv_numbered.specs.declared.heading.Heading.{Heading}
 use Rattle.smv_numbered.specs.declared.heading.Heading.TheVariants as heading

@@ -13,10 +13,10 @@ use Rattle.smv_laws.proofs.Ranked.{cycles_are_checked_law}
 use Rattle.smv_laws.proofs.SafeExpressions.{accepted_is_checked_law}
 use Rattle.smv_items.specs.FlatItems.{PlainFlatItem}
 use Rattle.smv_flat.specs.FlatForms.{PlainFlat, flat_smv}
-use Rattle.smv_flat_laws.specs.FlatTruth.{Row, IsRow}
+use Rattle.smv_flat.specs.FlatTruth.{Row, IsRow}
 use Rattle.smv_flat_laws.specs.FlatLaws.{row_of}
 use Rattle.smv_flat_laws.proofs.FlatRows.{row_is_one_law}
-use Rattle.smv_width.specs.FlatWidth.{width_of}
+use Rattle.smv_flat.specs.FlatWidth.{width_of}
 use Rattle.smv_script.specs.Codes.{datum_of}
 use Rattle.smv_script.specs.Script.{Group, inputs, outputs, locals, check_of, items_in, place_of_item, symbol_sort, variable_of, variables_in}
 use Rattle.smv_script_laws.specs.Decoding.{datum_from}

@@ -8,7 +8,7 @@ use Rattle.std.proofs.lemmas.Option.{slice_get_within}
 use Rattle.word_core.specs.Words.{BitVector}
 use Rattle.btor_witness.specs.declared.witness.Stated.{Stated}
 use Rattle.smv_items.specs.FlatItems.{PlainFlatItem}
-use Rattle.smv_flat_laws.specs.FlatTruth.{Row}
+use Rattle.smv_flat.specs.FlatTruth.{Row}
 use Rattle.smv_script.specs.Codes.{datum_of}
 use Rattle.smv_script.specs.Script.{Group, inputs, outputs, locals, group_of, group_start, items_in, place_among, place_of_item, same_group, symbol_sort}
 use Rattle.smv_script_laws.specs.Decoding.{datum_from}

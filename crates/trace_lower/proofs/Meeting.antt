@@ -11,7 +11,7 @@ use Rattle.smv_meaning.specs.Phases.{IsAccepted, invariants_in}
 use Rattle.smv_meaning.specs.Runs.{is_broken, is_false_at, label_fits, state_fits}
 use Rattle.smv_meaning.specs.laws.Booleans.{absurd_bool}
 use Rattle.smv_flat.specs.FlatForms.{flat_smv}
-use Rattle.smv_width.specs.FlatWidth.{width_of}
+use Rattle.smv_flat.specs.FlatWidth.{width_of}
 use Rattle.smv_flatten.specs.FlatModel.{IsRead}
 use Rattle.moxi_terms.specs.Value.{Calls, Values}
 use Rattle.moxi_scripts.specs.Script.{calls_in, query_of}

@@ -7,16 +7,15 @@ use Rattle.smv_meaning.specs.declared.value.Given.{Given}
 use Rattle.smv_meaning.specs.Instances.{weight_of}
 use Rattle.smv_items.specs.FlatItems.{PlainFlatItem}
 use Rattle.smv_flat.specs.FlatForms.{PlainFlat, flat_smv}
-use Rattle.smv_flat_laws.specs.FlatTruth.{Row}
-use Rattle.smv_width.specs.FlatWidth.{width_of}
-use Rattle.smv_flatten.specs.FlatModel.{FlatModel, flat_plain}
+use Rattle.smv_flat.specs.FlatTruth.{Row}
+use Rattle.smv_flat.specs.FlatWidth.{width_of}
+use Rattle.smv_flatten.specs.FlatModel.{FlatModel, flat_plain, IsFormOf, IsFlatOf}
+use Rattle.smv_flatten.proofs.Forms.{form_is_flat}
 use Rattle.smv_judge.specs.Labels.{first_label}
-use Rattle.smv_judge.specs.Models.{IsFlatOf}
 use Rattle.smv_judge.specs.Taken.{AreRowsOf, labels_left, next_or}
 use Rattle.smv_script_laws.proofs.Weights.{counts_by_weight}
 use Rattle.smv_script.specs.Script.{check_of}
 use Rattle.moxi_scripts.specs.Valid.{check_variables}
-use Rattle.witness_lift.specs.Breaking.{IsFormOf}
 use Rattle.witness_lift.specs.LineLaws.{model_system}
 use Rattle.witness_lift.proofs.Models.{weight_fits}
 use Rattle.trace_lower.specs.Lowered.{next_label}
@@ -53,9 +52,6 @@ few_items source flat m =
     let count = model_count source in
     let large : 2 ^ 32 ≡ 4294967296 = refl in
     subst (λ (f : PlainFlat). variable_count f.items < 2 ^ 32) (sym m.form) (omega (arith, counts, light, all, count, large))
-
-pub form_is_flat : (source : PlainSource) (f : FlatModel) → IsFormOf source f → IsFlatOf source (flat_plain f)
-form_is_flat source f m = record { needed = m.needed; read = m.read; accepted = m.accepted; form = m.form }
 
 pub form_is_coded : (source : PlainSource) (f : FlatModel) (c : Codes) → IsFormOf source f → c.width ≡ f.width → c.symbols ≡ f.symbols → IsCodedOf source (flat_plain f) c
 form_is_coded source f c m width symbols = record { form = form_is_flat source f m; width = width ∙ m.width; symbols = symbols }

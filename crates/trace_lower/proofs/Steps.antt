@@ -9,7 +9,7 @@ use Rattle.smv_meaning.specs.Instances.{instances_of}
 use Rattle.smv_meaning.specs.Runs.{label_fits, state_fits}
 use Rattle.smv_meaning.specs.laws.Booleans.{both_true}
 use Rattle.smv_flat.specs.FlatForms.{flat_smv}
-use Rattle.smv_width.specs.FlatWidth.{width_of}
+use Rattle.smv_flat.specs.FlatWidth.{width_of}
 use Rattle.smv_judge.specs.Labels.{first_label}
 use Rattle.smv_script_laws.specs.EnvironmentLaws.{environment_in}
 use Rattle.moxi_terms.specs.declared.data.Datum.{Datum}

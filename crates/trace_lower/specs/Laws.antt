@@ -11,7 +11,7 @@ use Rattle.smv_meaning.specs.declared.value.Run.{Run}
 use Rattle.smv_meaning.specs.Phases.{IsAccepted}
 use Rattle.smv_flat.specs.FlatForms.{flat_smv}
 use Rattle.smv_flatten.specs.FlatModel.{IsRead}
-use Rattle.smv_trace.specs.Runs.{Declarations, IsStatedRun}
+use Rattle.smv_numbered.specs.Stated.{Declarations, IsStatedRun}
 use Rattle.smv_script_laws.specs.RunLaws.{decoded_run}
 use Rattle.moxi_layout.specs.LayoutLaws.{IsLaidOut}
 use Rattle.moxi_lift.specs.Lifted.{lifted}

@@ -8,9 +8,9 @@ use Rattle.smv_meaning.specs.declared.value.Given.{Given}
 use Rattle.smv_meaning.specs.declared.value.Value.{Value}
 use Rattle.smv_items.specs.FlatItems.{PlainFlatItem}
 use Rattle.smv_flat.specs.FlatForms.{PlainFlat, flat_smv}
-use Rattle.smv_flat_laws.specs.FlatTruth.{Row}
-use Rattle.smv_width.specs.FlatWidth.{width_of}
-use Rattle.smv_judge.specs.Models.{IsFlatOf}
+use Rattle.smv_flat.specs.FlatTruth.{Row}
+use Rattle.smv_flat.specs.FlatWidth.{width_of}
+use Rattle.smv_flatten.specs.FlatModel.{IsFlatOf}
 use Rattle.smv_script.specs.Codes.{datum_of}
 use Rattle.smv_script.specs.Script.{Group, locals, group_start, items_in, place_of_item, symbol_sort}
 use Rattle.smv_script_laws.specs.Decoding.{datum_from}

@@ -7,7 +7,7 @@ use Rattle.btor_witness.specs.declared.witness.Witness.{Witness}
 use Rattle.smv_text.specs.Tree.{PlainSource}
 use Rattle.smv_meaning.specs.declared.value.Run.{Run}
 use Rattle.smv_flat.specs.FlatForms.{PlainFlat, flat_smv}
-use Rattle.smv_flatten.specs.FlatModel.{FlatModel}
+use Rattle.smv_flatten.specs.FlatModel.{FlatModel, IsFormOf}
 use Rattle.smv_script.specs.Script.{coding_of, script_for, script_of}
 use Rattle.smv_script_laws.specs.Decoding.{run_of}
 use Rattle.smv_script_laws.specs.RunLaws.{HasQueries, TracesAreRuns, decoded_run}
@@ -18,7 +18,7 @@ use Rattle.moxi_flat.specs.FlatMeeting.{MeetsFlat}
 use Rattle.moxi_flat.specs.FlatSystem.{flat_of}
 use Rattle.moxi_flat.specs.FlatLaws.{TracesHaveFlatTraces}
 use Rattle.moxi_lift.specs.Laws.{MeetsQueryOf}
-use Rattle.witness_lift.specs.Breaking.{BreaksIn, BreaksLast, IsFormOf, TracesBreakInvariants}
+use Rattle.witness_lift.specs.Breaking.{BreaksIn, BreaksLast, TracesBreakInvariants}
 use Rattle.witness_lift.specs.Lifting.{run_in, system_in}
 use Rattle.witness_lift.proofs.Lifts.{IsLiftedIn}
 use Rattle.moxi_scripts.specs.Behaviour.{trace_of}

@@ -5,23 +5,13 @@ use Rattle.smv_text.specs.Tree.{PlainSource}
 use Rattle.smv_meaning.specs.declared.value.Run.{Run}
 use Rattle.smv_meaning.specs.Values.{given}
 use Rattle.smv_meaning.specs.Phases.{IsAccepted}
-use Rattle.smv_flat.specs.FlatForms.{flat_smv}
-use Rattle.smv_width.specs.FlatWidth.{width_of}
-use Rattle.smv_flatten.specs.FlatModel.{FlatModel, IsRead, flat_plain}
+use Rattle.smv_flatten.specs.FlatModel.{FlatModel, IsFormOf, IsRead}
 use Rattle.smv_script.specs.Script.{script_for}
 use Rattle.smv_script_laws.specs.RunLaws.{BreaksAt, decoded_run}
 use Rattle.moxi_terms.specs.declared.data.Datum.{Datum}
 use Rattle.moxi_flat.specs.FlatSystem.{flat_of}
 use Rattle.moxi_lift.specs.Laws.{MeetsQueryOf}
 use Rattle.moxi_scripts.specs.Behaviour.{trace_of}
-
--- it is the flat form of a model that a text spells and whose checks hold
-pub record IsFormOf (source : PlainSource) (f : FlatModel) : Type 0 where
-  pub needed : ℕ
-  pub read : IsRead source
-  pub accepted : IsAccepted source needed
-  pub form : flat_plain f ≡ flat_smv source
-  pub width : f.width ≡ width_of (flat_smv source)
 
 -- a run of so many transitions whose last state breaks the invariant
 abbrev pub BreaksIn : PlainSource → ℕ → ℕ → Run → Type 0
@@ -36,7 +26,3 @@ BreaksLast f w run = (source : PlainSource) → IsFormOf source f → ∥ Breaks
 abbrev pub TracesBreakInvariants : Type 0
 TracesBreakInvariants = (source : PlainSource) (needed : ℕ) → IsRead source → IsAccepted source needed → (j : ℕ) (envs : List (List Datum)) → MeetsQueryOf (flat_of (script_for source)) j envs
     → BreaksIn source j (length envs - 1) (decoded_run source (trace_of envs) (length envs - 1))
-
--- some model has this flat form
-abbrev pub HasForm : FlatModel → Type 0
-HasForm f = (source : PlainSource) × IsFormOf source f

@@ -4,7 +4,7 @@ ghost use Rattle.smv_text.specs.View.{plain_source};
 ghost use Rattle.smv_meaning.specs.Instances.{instances_of, weight_of};
 ghost use Rattle.smv_meaning.specs.Phases.{IsAccepted, checks_of, invariants_in};
 ghost use Rattle.smv_flat.specs.FlatForms.{flat_smv};
-ghost use Rattle.smv_width.specs.FlatWidth.{width_of};
+ghost use Rattle.smv_flat.specs.FlatWidth.{width_of};
 ghost use Rattle.smv_flatten.specs.FlatModel.{IsRead, flat_plain};
 ghost use Rattle.smv_flatten.specs.Refusing.{Decides};
 ghost use Rattle.moxi_layout.specs.LayoutLaws.{IsLaidOut};
@@ -18,6 +18,7 @@ use smv_flatten::{Flat, FlatEnd, flatten};
 use smv_text::Source;
 use std::alloc::Global;
 use std::marker::Model;
+use text_core::NoMemory;
 
 /// The flat form of a model, with the scope, the variables and the BTOR2 lines of the flat system of its script.
 ///
@@ -60,6 +61,13 @@ impl SmvChain {
         ensures invariants { IfOk result (λ c. c.invariants ≡ length (invariants_in (instances_of (plain_source source.now)))) }
     {
         let flat = flatten(alloc, source, needed)?;
+        Ok(SmvChain::over(alloc, flat)?)
+    }
+
+    /// Returns the chain of a flat form.
+    pub fn over(alloc: Global, flat: Flat) -> Result<SmvChain, NoMemory>
+        ensures { IfOk result (λ c. c ≡ flat) }
+    {
         let lines = system_lines(alloc, &flat)?;
         Ok(SmvChain { flat, lines })
     }

@@ -1,12 +1,12 @@
 use Rattle.std.proofs.Common.{◌≡◌, true, map, sym, ap, ◌∙◌, subst}
 use Rattle.text_core.specs.declared.verdict.Verdict.TheVariants.{Yes}
 use Rattle.smv_text.specs.Tree.{PlainSource}
-use Rattle.smv_flatten.specs.FlatModel.{FlatModel, flat_plain}
-use Rattle.smv_judge.specs.Models.{IsFlatOf, IsListedRun}
+use Rattle.smv_flatten.specs.FlatModel.{FlatModel, flat_plain, IsFlatOf}
+use Rattle.smv_judge.specs.Models.{IsListedRun}
 use Rattle.smv_meaning.specs.declared.value.Run.{Run}
 use Rattle.smv_meaning.specs.Runs.{judged_smv}
 use Rattle.smv_meaning.specs.Values.{given}
-use Rattle.smv_models.proofs.Forms.{flat_form, has_flat}
+use Rattle.smv_flatten.proofs.Forms.{form_is_flat, has_flat}
 use Rattle.witness_lift.specs.Lifting.{lines_in}
 use Rattle.generate.specs.Generating.{IsSummary, verdict_for}
 use Rattle.generate.specs.Verdicts.{is_yes}
@@ -33,7 +33,7 @@ unreachable-requires c =
     let run = c.args.run.now in
     let yes : is_yes (judged_smv source c.args.witness.now.bad (map given run.states) (map given run.labels)) ≡ true =
     always_yes c.yes_is_run.ensures source c.args.witness.now.bad (map given run.states) (map given run.labels) (breaks_of source c.args.chain.now form c.args.witness.now run c.requires.breaks) in
-    no_both c.in_ok-says_yes.field-0 (c.in_ok-says_yes.ensures source (subst (λ (f : FlatModel). IsFlatOf source (flat_plain f)) (sym c.flat.ensures) (flat_form source c.args.chain.now form)) ∙ yes) c.if-branch.false
+    no_both c.in_ok-says_yes.field-0 (c.in_ok-says_yes.ensures source (subst (λ (f : FlatModel). IsFlatOf source (flat_plain f)) (sym c.flat.ensures) (form_is_flat source c.args.chain.now form)) ∙ yes) c.if-branch.false
 
 pub returns : goal.returns
 returns c =
@@ -43,7 +43,7 @@ returns c =
     let weighed : c.weight-weight.result ≡ chain.weight = cc in
     for_models chain (λ source. IsSummary c.args.n source (lines_in chain) w) c.summary_of.result (λ source form weight.
     let verdict = judged_smv source w.bad (map given run.states) (map given run.labels) in
-    let asked : verdict ≡ Yes = yes_is verdict (sym (c.in_ok-says_yes.ensures source (subst (λ (f : FlatModel). IsFlatOf source (flat_plain f)) (sym c.flat.ensures) (flat_form source chain form))) ∙ c.if-branch.true) in
+    let asked : verdict ≡ Yes = yes_is verdict (sym (c.in_ok-says_yes.ensures source (subst (λ (f : FlatModel). IsFlatOf source (flat_plain f)) (sym c.flat.ensures) (form_is_flat source chain form))) ∙ c.if-branch.true) in
     let broken : verdict_for source w ≡ Yes = ap (λ (r : Run). judged_smv source w.bad (map given r.states) (map given r.labels)) (sym (c.requires.run ∙ lifted_is source chain form w)) ∙ asked in
     summarised c.args.n source (lines_in chain) c.nodes.result.now w c.weight-weight.result c.len.result c.summary_of.result c.nodes.ensures (inputs_are source chain form c.inputs_are_variables.ensures) (weighed ∙ weight) c.len.ensures c.requires.accepted broken
     c.summary_of.ensures)

@@ -2,7 +2,7 @@ use Rattle.std.proofs.Common.{◌+◌, ◌*◌, ◌≡◌, ◌≤◌, max, drop,
 use Rattle.smv_meaning.specs.Operators.{trues}
 use Rattle.smv_flat.specs.FlatTree.{flat_links_of, flat_branches_of, flat_trees_of, flat_denote, flat_chosen, flat_values, flat_permits}
 use Rattle.smv_flat.specs.FlatView.{plain_flat, plain_flat_branch, plain_flat_link}
-use Rattle.smv_flat_laws.specs.FlatTruth.{symbol_value}
+use Rattle.smv_flat.specs.FlatTruth.{symbol_value}
 use Rattle.smv_operators.specs.View.{seen_value}
 use Rattle.smv_flat_evaluation.specs.RowValues.{row_values}
 use Rattle.smv_flat_evaluation.specs.Fronts.{flat_fronts_value, flat_fronts_permit}

@@ -3,7 +3,8 @@ use Rattle.smv_text.specs.Tree.{PlainSource}
 use Rattle.smv_meaning.specs.Values.{given}
 use Rattle.smv_meaning.specs.Instances.{instances_of}
 use Rattle.smv_flat.specs.FlatParts.{parts_plain}
-use Rattle.smv_judge.specs.Models.{IsFlatOf, IsStateRow}
+use Rattle.smv_flatten.specs.FlatModel.{IsFlatOf}
+use Rattle.smv_judge.specs.Models.{IsStateRow}
 use Rattle.smv_judge.specs.Stated.{states_in, labels_in, label_in, list_at, judged_from, IsCarried}
 use Rattle.smv_judge.proofs.Takes.{TakenBefore}
 use Rattle.smv_judge.proofs.judge.judge_steps.Given as goal

@@ -1,6 +1,6 @@
 use Rattle.std.proofs.Common.{sym, subst}
 use Rattle.smv_flat.specs.FlatParts.{parts_plain}
-use Rattle.smv_flat_laws.specs.FlatTruth.{IsRow}
+use Rattle.smv_flat.specs.FlatTruth.{IsRow}
 use Rattle.smv_flat_evaluation.specs.RowValues.{row_values}
 use Rattle.smv_judge.proofs.StepLaws.{all_safe}
 use Rattle.smv_judge.proofs.judge.take_last.Goals as goal

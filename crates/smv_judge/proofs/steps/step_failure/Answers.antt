@@ -6,7 +6,7 @@ use Rattle.smv_meaning.specs.Runs.{state_fits, label_fits, invar_holds, step_hol
 use Rattle.smv_flat_laws.specs.FlatLaws.{HasTruth}
 use Rattle.smv_flat_evaluation.specs.RowValues.{row_values}
 use Rattle.smv_flat.specs.FlatParts.{parts_plain}
-use Rattle.smv_judge.specs.Models.{IsFlatOf}
+use Rattle.smv_flatten.specs.FlatModel.{IsFlatOf}
 use Rattle.smv_judge.proofs.StepLaws.{told, truth_is, both_same, both_fit, none_fits, rows_safe, rows_true, all_safe, can_fill, first_fails, second_fails, third_fails, none_fails}
 use Rattle.smv_judge.proofs.steps.step_failure.Goals as goal
 

@@ -1,6 +1,6 @@
 use Rattle.std.proofs.Common.{◌≡◌, true, nat_lt, length}
 use Rattle.std.specs.List.{list_all}
-use Rattle.smv_flat_laws.specs.FlatTruth.{symbol_value}
+use Rattle.smv_flat.specs.FlatTruth.{symbol_value}
 use Rattle.smv_flat_evaluation.specs.RowValues.{row_values}
 use Rattle.smv_rows.specs.Filling.{bodies_in, filled, FillsSafely}
 use Rattle.smv_rows.proofs.row.fill_bodies.Given as goal

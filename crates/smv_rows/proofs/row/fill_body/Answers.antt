@@ -2,7 +2,7 @@ use Rattle.std.proofs.Common.{List, ap, ◌∙◌, sym}
 use Rattle.smv_operators.specs.declared.seen.Seen.{Seen}
 use Rattle.smv_flat.specs.FlatTree.{flat_denote}
 use Rattle.smv_flat.specs.FlatView.{plain_flat}
-use Rattle.smv_flat_laws.specs.FlatTruth.{symbol_value}
+use Rattle.smv_flat.specs.FlatTruth.{symbol_value}
 use Rattle.smv_flat_evaluation.specs.RowValues.{row_values}
 use Rattle.smv_rows.specs.Filling.{body_plain, with_body}
 use Rattle.smv_rows.proofs.VariableRows.{body_set}

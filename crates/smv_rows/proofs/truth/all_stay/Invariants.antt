@@ -1,6 +1,6 @@
 use Rattle.std.proofs.Common.{◌≡◌, drop, map}
 use Rattle.smv_items.specs.FlatItemView.{item_plain}
-use Rattle.smv_flat_laws.specs.FlatTruth.{items_stay}
+use Rattle.smv_flat.specs.FlatTruth.{items_stay}
 use Rattle.smv_flat_evaluation.specs.RowValues.{row_values}
 use Rattle.smv_rows.proofs.truth.all_stay.Given as goal
 

@@ -1,7 +1,7 @@
 use Rattle.std.proofs.Common.{◌≡◌, drop, map}
 use Rattle.std.specs.List.{slice_get}
 use Rattle.smv_flat.specs.FlatFormulas.{form_plain}
-use Rattle.smv_flat_laws.specs.FlatTruth.{forms_invariants}
+use Rattle.smv_flat.specs.FlatTruth.{forms_invariants}
 use Rattle.smv_rows.proofs.truth.invariant_at.Given as goal
 
 abbrev pub invariant-loop-formula : goal.invariant-loop-formula

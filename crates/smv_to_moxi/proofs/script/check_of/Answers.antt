@@ -1,5 +1,5 @@
 use Rattle.std.proofs.Common.{◌∙◌, ap, map}
-use Rattle.smv_flat_laws.specs.FlatTruth.{forms_invariants}
+use Rattle.smv_flat.specs.FlatTruth.{forms_invariants}
 use Rattle.moxi_scripts.specs.Script.{plain_formula, plain_system}
 use Rattle.smv_script.specs.Script.{reachables_from}
 use Rattle.smv_flat.specs.FlatParts.{parts_plain}

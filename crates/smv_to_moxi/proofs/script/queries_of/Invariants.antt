@@ -1,6 +1,6 @@
 use Rattle.std.proofs.Common.{◌≡◌, ◌++◌, drop, length, map}
 use Rattle.smv_flat.specs.FlatFormulas.{form_plain}
-use Rattle.smv_flat_laws.specs.FlatTruth.{forms_invariants}
+use Rattle.smv_flat.specs.FlatTruth.{forms_invariants}
 use Rattle.smv_script.specs.Script.{queries_from}
 use Rattle.smv_to_moxi.proofs.script.queries_of.Given as goal
 

@@ -1,7 +1,7 @@
 use Rattle.std.proofs.Common.{◌≡◌, ◌++◌, drop, length, map}
 use Rattle.moxi_scripts.specs.Script.{plain_formula}
 use Rattle.smv_flat.specs.FlatFormulas.{form_plain}
-use Rattle.smv_flat_laws.specs.FlatTruth.{forms_invariants}
+use Rattle.smv_flat.specs.FlatTruth.{forms_invariants}
 use Rattle.smv_script.specs.Script.{reachables_from}
 use Rattle.smv_script_terms.specs.Questions.{codes_of}
 use Rattle.smv_to_moxi.proofs.script.reachables_of.Given as goal

@@ -6,7 +6,7 @@ use Rattle.text_core.specs.Places.{start, after}
 use Rattle.smv_meaning.specs.declared.value.Run.{Run}
 use Rattle.smv_trace_text.specs.Lines.{lines_of, behind_line}
 use Rattle.smv_trace.specs.Reading.{finished}
-use Rattle.smv_trace.specs.Runs.{Declarations}
+use Rattle.smv_numbered.specs.Stated.{Declarations}
 use Rattle.smv_trace.specs.Numbering.{reading_of}
 use Rattle.smv_trace.specs.Texts.{lines_read}
 use Rattle.smv_trace.specs.Answer.{Finishes}

@@ -2,7 +2,7 @@ use Rattle.std.proofs.Common.{map, option_map, rules}
 use Rattle.smv_intervals.specs.View.{seen}
 use Rattle.smv_flat.specs.FlatTree.{flat_links_of}
 use Rattle.smv_flat.specs.FlatView.{plain_flat_link}
-use Rattle.smv_width.specs.FlatWidth.{links_width}
+use Rattle.smv_flat.specs.FlatWidth.{links_width}
 use Rattle.smv_flat.specs.laws.FlatSteps.{drop_item}
 use Rattle.smv_width.proofs.WidthLemmas.{links_on, chain_at}
 use Rattle.smv_width.proofs.width.+width.Goals as goal

@@ -2,7 +2,7 @@ use Rattle.std.proofs.Common.{◌≡◌, ◌≤◌, drop, map, max, option_map}
 use Rattle.smv_intervals.specs.View.{seen}
 use Rattle.smv_flat.specs.FlatTree.{flat_links_of, flat_branches_of, flat_trees_of}
 use Rattle.smv_flat.specs.FlatView.{plain_flat, plain_flat_link, plain_flat_branch}
-use Rattle.smv_width.specs.FlatWidth.{links_width, branches_width, trees_width}
+use Rattle.smv_flat.specs.FlatWidth.{links_width, branches_width, trees_width}
 use Rattle.smv_width.proofs.width.+width.Given as goal
 
 abbrev pub invariant-links_width-loop-link : goal.invariant-links_width-loop-link

@@ -1,6 +1,6 @@
 use Rattle.std.proofs.Common.{◌≡◌, ◌≤◌, drop, map, max}
 use Rattle.smv_flat.specs.FlatFormulas.{form_plain}
-use Rattle.smv_width.specs.FlatWidth.{forms_width}
+use Rattle.smv_flat.specs.FlatWidth.{forms_width}
 use Rattle.smv_width.proofs.width.forms_width.Given as goal
 
 abbrev pub invariant-loop-formula : goal.invariant-loop-formula

@@ -3,7 +3,7 @@ use Rattle.std.specs.Prelude.{◌≤◌}
 use Rattle.text_core.specs.declared.place.Place.{Place}
 use Rattle.text_core.specs.Places.{start, after}
 use Rattle.smv_flat.specs.FlatForms.{flat_smv}
-use Rattle.smv_width.specs.FlatWidth.{width_of}
+use Rattle.smv_flat.specs.FlatWidth.{width_of}
 use Rattle.smv_script.specs.Script.{script_for}
 use Rattle.moxi_term_print.specs.Shown.{shown_depths}
 use Rattle.moxi_script_print.specs.Printing.{shown_script}

@@ -6,7 +6,8 @@ use Rattle.smv_items.specs.FlatItems.{PlainFlatItem}
 use Rattle.smv_items.specs.FlatItemView.{item_plain}
 use Rattle.smv_flatten.specs.FlatModel.{flat_plain}
 use Rattle.trace_lower.specs.Stating.{variable_count}
-use Rattle.trace_lower.proofs.States.{few_items, form_is_flat, taken_are}
+use Rattle.smv_flatten.proofs.Forms.{form_is_flat}
+use Rattle.trace_lower.proofs.States.{few_items, taken_are}
 use Rattle.trace_lower.proofs.lower.lower_flat.Goals as goal
 
 pub judge_rows-requires-clause-model : goal.judge_rows-requires-clause-model

@@ -7,7 +7,8 @@ use Rattle.smv_items.specs.FlatItemView.{item_plain}
 use Rattle.smv_flatten.specs.FlatModel.{flat_plain}
 use Rattle.smv_numbered.specs.Runs.{run_in}
 use Rattle.trace_lower.specs.Stating.{variable_count}
-use Rattle.trace_lower.proofs.States.{few_items, form_is_flat, taken_are}
+use Rattle.smv_flatten.proofs.Forms.{form_is_flat}
+use Rattle.trace_lower.proofs.States.{few_items, taken_are}
 use Rattle.trace_lower.proofs.lower.lower_numbered.Goals as goal
 
 pub judge_numbered_rows-requires-clause-model : goal.judge_numbered_rows-requires-clause-model

@@ -4,7 +4,7 @@ use Rattle.smv_text.specs.View.{plain_source}
 use Rattle.smv_meaning.specs.Checks.{first_failing, IsBad}
 use Rattle.smv_meaning.specs.Phases.{checks_of}
 use Rattle.smv_judge.proofs.StepLaws.{none_refused}
-use Rattle.witness_lift.specs.Breaking.{IsFormOf}
+use Rattle.smv_flatten.specs.FlatModel.{IsFormOf}
 use Rattle.trace_lower.proofs.lower.lower_smv.Goals as goal
 
 pub unreachable-requires : goal.unreachable-requires

@@ -1,7 +1,7 @@
 use Rattle.std.proofs.Common.{◌≡◌, length, refl, ap, arith}
 use Rattle.smv_flat.specs.FlatForms.{flat_smv}
-use Rattle.smv_flat_laws.specs.FlatTruth.{forms_invariants}
-use Rattle.smv_width.specs.FlatWidth.{width_of}
+use Rattle.smv_flat.specs.FlatTruth.{forms_invariants}
+use Rattle.smv_flat.specs.FlatWidth.{width_of}
 use Rattle.smv_script.specs.Script.{script_for}
 use Rattle.moxi_flat.specs.Systems.{script_size}
 use Rattle.moxi_layout.specs.Counts.{flat_size}

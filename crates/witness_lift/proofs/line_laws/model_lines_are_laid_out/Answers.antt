@@ -1,7 +1,7 @@
 use Rattle.std.proofs.Common.{◌≡◌, ◌<◌, length, arith}
 use Rattle.btor_tree.specs.Fits.{greatest_id}
 use Rattle.smv_flat.specs.FlatForms.{flat_smv}
-use Rattle.smv_width.specs.FlatWidth.{width_of}
+use Rattle.smv_flat.specs.FlatWidth.{width_of}
 use Rattle.smv_script.specs.Script.{script_for}
 use Rattle.moxi_flat.specs.Systems.{script_size}
 use Rattle.moxi_lines.specs.TermLaws.{HaveCodes}

@@ -1,6 +1,6 @@
 use Rattle.std.proofs.Common.{refl}
 use Rattle.smv_flat.specs.FlatForms.{flat_smv}
-use Rattle.smv_width.specs.FlatWidth.{width_of}
+use Rattle.smv_flat.specs.FlatWidth.{width_of}
 use Rattle.smv_script.specs.Script.{script_for}
 use Rattle.witness_lift.proofs.Models.{has_flat_system}
 use Rattle.witness_lift.proofs.line_laws.models_have_flat_systems.Goals as goal

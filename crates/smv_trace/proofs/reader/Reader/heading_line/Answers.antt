@@ -1,5 +1,5 @@
 use Rattle.std.proofs.Common.{List, ℕ, subst}
-use Rattle.smv_trace.specs.Runs.{Declarations}
+use Rattle.smv_numbered.specs.Stated.{Declarations}
 use Rattle.smv_trace.specs.Reading.{ended, begun}
 use Rattle.smv_trace.specs.Numbering.{reading_of}
 use Rattle.smv_trace.proofs.reader.Reader.heading_line.Goals as goal

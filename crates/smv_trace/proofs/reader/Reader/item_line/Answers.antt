@@ -1,7 +1,7 @@
 use Rattle.std.proofs.Common.{Result, Some, sym, ◌∙◌, subst}
 use Rattle.text_core.specs.declared.place.Refusal.{Refusal}
 use Rattle.smv_items.specs.FlatItemView.{item_plain}
-use Rattle.smv_trace.specs.Runs.{Declarations}
+use Rattle.smv_numbered.specs.Stated.{Declarations}
 use Rattle.smv_trace.specs.Reading.{Reading, placed_line}
 use Rattle.smv_trace.specs.Numbering.{reading_of}
 use Rattle.smv_trace.specs.Answer.{Takes}
