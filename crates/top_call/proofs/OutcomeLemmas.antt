@@ -200,11 +200,11 @@ run_prefix once (Some fs) command faulted a before now m p = λ b d. part_by onc
 
 pub run_complete : (once : OneGenerated) → (files : Option Files) (command : Option Command) (shelf out notes : Type 0) (a : Answer) (s : Status) (before now was is : Option (List ℕ)) → MayAnswer files command shelf a → Ends s a
     → (s ≢ status.WriteFault → now ≡ grown before (text_of a)) → (s ≢ status.WriteFault → is ≡ grown was (line_of a)) → (s ≡ status.WriteFault → out ⊎ notes)
-    → IfSome files (λ fs. (shelf → ⊥) → (out → ⊥) → (notes → ⊥) → (b : Answer) → Answers command fs b → ((s ≡ status_of b) × (now ≡ grown before (text_of b)) × (is ≡ grown was (line_of b))) ⊎ (s ≡ status.NoMemory))
+    → IfSome files (λ fs. (shelf → ⊥) × (out → ⊥) × (notes → ⊥) → (b : Answer) → Answers command fs b → ((s ≡ status_of b) × (now ≡ grown before (text_of b)) × (is ≡ grown was (line_of b))) ⊎ (s ≡ status.NoMemory))
 run_complete once None command shelf out notes a s before now was is m ends text line w = tt
-run_complete once (Some fs) command shelf out notes a s before now was is m ends text line w = λ sh o n b d.
-    let whole : s ≢ status.WriteFault = λ f. elim (w f) [ inl r ↦ o r | inr r ↦ n r ] in
-    let same = one_answer once command fs a b (defined fs command shelf a m sh) d in
+run_complete once (Some fs) command shelf out notes a s before now was is m ends text line w = λ none b d.
+    let whole : s ≢ status.WriteFault = λ f. elim (w f) [ inl r ↦ none.1 r | inr r ↦ none.2 r ] in
+    let same = one_answer once command fs a b (defined fs command shelf a m none.0) d in
     elim ends [
       | inl e ↦ inl (e ∙ ap status_of same, text whole ∙ ap (λ x. grown before (text_of x)) same, line whole ∙ ap (λ x. grown was (line_of x)) same)
       | inr f ↦ absurd (whole f)
@@ -326,11 +326,11 @@ run_correct_output laws None command before now h = tt
 run_correct_output laws (Some fs) command before now h = correct_output_by laws command fs h.0 before now h.1 h.2 h.3
 
 pub run_translates : (once : OneGenerated) → (texts : TranslationsAreCorrect) (files : Option Files) (command : Option Command) (shelf out notes : Type 0) (a : Answer) (s : Status) (before now : Option (List ℕ)) → MayAnswer files command shelf a → Ends s a → (s ≢ status.WriteFault → now ≡ grown before (text_of a)) → (s ≡ status.WriteFault → out ⊎ notes)
-    → IfSome files (λ fs. (model bytes : List ℕ) (source : PlainSource) → command ≡ Some (SmvToBtor model) → file_at fs model ≡ Some bytes → Accepts bytes source → (shelf → ⊥) → (out → ⊥) → (notes → ⊥) → s ≢ status.NoMemory → (s ≡ status.Done) × ((text : List ℕ) × (now ≡ grown before text) × TranslatesTo source text))
+    → IfSome files (λ fs. (model bytes : List ℕ) (source : PlainSource) → command ≡ Some (SmvToBtor model) → file_at fs model ≡ Some bytes → Accepts bytes source → ((shelf → ⊥) × (out → ⊥) × (notes → ⊥)) × (s ≢ status.NoMemory) → (s ≡ status.Done) × ((text : List ℕ) × (now ≡ grown before text) × TranslatesTo source text))
 run_translates once texts None command shelf out notes a s before now m ends taken w = tt
-run_translates once texts (Some fs) command shelf out notes a s before now m ends taken w = λ model bytes source is there acc sh o n memory.
-    let same = one_answer once command fs a (Done (Text (btor_text source))) (defined fs command shelf a m sh) (subst (λ c. Answers c fs (Done (Text (btor_text source)))) (sym is) (translations.accepted_answer fs model bytes source there acc)) in
-    let whole : s ≢ status.WriteFault = λ f. elim (w f) [ inl r ↦ o r | inr r ↦ n r ] in
+run_translates once texts (Some fs) command shelf out notes a s before now m ends taken w = λ model bytes source is there acc well.
+    let same = one_answer once command fs a (Done (Text (btor_text source))) (defined fs command shelf a m well.0.0) (subst (λ c. Answers c fs (Done (Text (btor_text source)))) (sym is) (translations.accepted_answer fs model bytes source there acc)) in
+    let whole : s ≢ status.WriteFault = λ f. elim (w f) [ inl r ↦ well.0.1 r | inr r ↦ well.0.2 r ] in
     elim ends [
       | inl e ↦ (e ∙ ap status_of same, (btor_text source, taken whole ∙ ap (λ x. grown before (text_of x)) same, texts bytes source acc))
       | inr f ↦ absurd (whole f)
@@ -338,12 +338,12 @@ run_translates once texts (Some fs) command shelf out notes a s before now m end
 
 pub run_lifts : (once : OneGenerated) → (lifted : RunsAreLifted) (files : Option Files) (command : Option Command) (shelf out notes : Type 0) (a : Answer) (s : Status) (before now : Option (List ℕ)) → MayAnswer files command shelf a → Ends s a → (s ≢ status.WriteFault → now ≡ grown before (text_of a)) → (s ≡ status.WriteFault → out ⊎ notes)
     → IfSome files (λ fs. (model second bytes text : List ℕ) (source : PlainSource) (lines : List Line) (w : Witness) → command ≡ Some (LiftSmv model second) → file_at fs model ≡ Some bytes → Accepts bytes source → SpellsLines (btor_text source) lines
-    → file_at fs second ≡ Some text → SpellsWitness lines text w → judged_btor lines w Yes → (shelf → ⊥) → (out → ⊥) → (notes → ⊥) → s ≢ status.NoMemory → (s ≡ status.Done) × ((trace : List ℕ) × (now ≡ grown before trace) × LiftsBack source w trace))
+    → file_at fs second ≡ Some text → SpellsWitness lines text w → judged_btor lines w Yes → ((shelf → ⊥) × (out → ⊥) × (notes → ⊥)) × (s ≢ status.NoMemory) → (s ≡ status.Done) × ((trace : List ℕ) × (now ≡ grown before trace) × LiftsBack source w trace))
 run_lifts once lifted None command shelf out notes a s before now m ends taken w = tt
-run_lifts once lifted (Some fs) command shelf out notes a s before now m ends taken w = λ model second bytes text source lines v is there acc spelled second_there states judged sh o n memory.
+run_lifts once lifted (Some fs) command shelf out notes a s before now m ends taken w = λ model second bytes text source lines v is there acc spelled second_there states judged well.
     let answer = Done (Text (lifted_trace source v)) in
-    let same = one_answer once command fs a answer (defined fs command shelf a m sh) (subst (λ c. Answers c fs answer) (sym is) (traces.accepted_answer fs model second bytes text source lines v there acc spelled second_there states judged)) in
-    let whole : s ≢ status.WriteFault = λ f. elim (w f) [ inl r ↦ o r | inr r ↦ n r ] in
+    let same = one_answer once command fs a answer (defined fs command shelf a m well.0.0) (subst (λ c. Answers c fs answer) (sym is) (traces.accepted_answer fs model second bytes text source lines v there acc spelled second_there states judged)) in
+    let whole : s ≢ status.WriteFault = λ f. elim (w f) [ inl r ↦ well.0.1 r | inr r ↦ well.0.2 r ] in
     elim ends [
       | inl e ↦ (e ∙ ap status_of same, (lifted_trace source v, taken whole ∙ ap (λ x. grown before (text_of x)) same, lifted bytes source acc lines spelled text v states judged))
       | inr f ↦ absurd (whole f)
@@ -352,12 +352,12 @@ run_lifts once lifted (Some fs) command shelf out notes a s before now m ends ta
 -- a trace of an accepted model of which the judge says Yes is written as the witness that states its run
 pub run_lowers : (once : OneGenerated) → (lowered : RunsAreLowered) (files : Option Files) (command : Option Command) (shelf out notes : Type 0) (a : Answer) (s : Status) (before now : Option (List ℕ)) → MayAnswer files command shelf a → Ends s a → (s ≢ status.WriteFault → now ≡ grown before (text_of a)) → (s ≡ status.WriteFault → out ⊎ notes)
     → IfSome files (λ fs. (model second bytes trace : List ℕ) (j : ℕ) (source : PlainSource) (run : Run) → command ≡ Some (Lower model second j) → file_at fs model ≡ Some bytes → IsAcceptedModel bytes j source → file_at fs second ≡ Some trace → IsTraceOf source trace run
-    → IsAcceptedRun source j run → (shelf → ⊥) → (out → ⊥) → (notes → ⊥) → s ≢ status.NoMemory → (s ≡ status.Done) × ((text : List ℕ) × (now ≡ grown before text) × StatesRun source j run text))
+    → IsAcceptedRun source j run → ((shelf → ⊥) × (out → ⊥) × (notes → ⊥)) × (s ≢ status.NoMemory) → (s ≡ status.Done) × ((text : List ℕ) × (now ≡ grown before text) × StatesRun source j run text))
 run_lowers once lowered None command shelf out notes a s before now m ends taken w = tt
-run_lowers once lowered (Some fs) command shelf out notes a s before now m ends taken w = λ model second bytes trace j source run is there acc second_there states judged sh o n memory.
+run_lowers once lowered (Some fs) command shelf out notes a s before now m ends taken w = λ model second bytes trace j source run is there acc second_there states judged well.
     let answer = Done (Text (lowered_text source j run)) in
-    let same = one_answer once command fs a answer (defined fs command shelf a m sh) (subst (λ c. Answers c fs answer) (sym is) (lowerings.accepted_answer fs model second bytes trace j source run there acc second_there states judged)) in
-    let whole : s ≢ status.WriteFault = λ f. elim (w f) [ inl r ↦ o r | inr r ↦ n r ] in
+    let same = one_answer once command fs a answer (defined fs command shelf a m well.0.0) (subst (λ c. Answers c fs answer) (sym is) (lowerings.accepted_answer fs model second bytes trace j source run there acc second_there states judged)) in
+    let whole : s ≢ status.WriteFault = λ f. elim (w f) [ inl r ↦ well.0.1 r | inr r ↦ well.0.2 r ] in
     elim ends [
       | inl e ↦ (e ∙ ap status_of same, (lowered_text source j run, taken whole ∙ ap (λ x. grown before (text_of x)) same, lowered bytes j source acc trace run states judged))
       | inr f ↦ absurd (whole f)
@@ -366,50 +366,50 @@ run_lowers once lowered (Some fs) command shelf out notes a s before now m ends 
 -- a witness for the smaller text of a model's text is lifted like one for the text itself
 pub run_lifts_smaller : (once : OneGenerated) → (lifted : RunsAreLifted) (stand : SmallerTextsAreCorrect) (files : Option Files) (command : Option Command) (shelf out notes : Type 0) (a : Answer) (s : Status) (before now : Option (List ℕ)) → MayAnswer files command shelf a → Ends s a → (s ≢ status.WriteFault → now ≡ grown before (text_of a)) → (s ≡ status.WriteFault → out ⊎ notes)
     → IfSome files (λ fs. (model second bytes shorter text : List ℕ) (source : PlainSource) (lines : List Line) (w : Witness) → command ≡ Some (LiftSmv model second) → file_at fs model ≡ Some bytes → Accepts bytes source → IsSmallerText (btor_text source) shorter → SpellsLines shorter lines
-    → file_at fs second ≡ Some text → SpellsWitness lines text w → judged_btor lines w Yes → (shelf → ⊥) → (out → ⊥) → (notes → ⊥) → s ≢ status.NoMemory → (s ≡ status.Done) × ((trace : List ℕ) × (now ≡ grown before trace) × LiftsBack source w trace))
+    → file_at fs second ≡ Some text → SpellsWitness lines text w → judged_btor lines w Yes → ((shelf → ⊥) × (out → ⊥) × (notes → ⊥)) × (s ≢ status.NoMemory) → (s ≡ status.Done) × ((trace : List ℕ) × (now ≡ grown before trace) × LiftsBack source w trace))
 run_lifts_smaller once lifted stand None command shelf out notes a s before now m ends taken w = tt
-run_lifts_smaller once lifted stand (Some fs) command shelf out notes a s before now m ends taken w = λ model second bytes shorter text source lines v is there acc smaller_text spelled second_there states judged sh o n memory.
+run_lifts_smaller once lifted stand (Some fs) command shelf out notes a s before now m ends taken w = λ model second bytes shorter text source lines v is there acc smaller_text spelled second_there states judged well.
     let own = accepted_before stand (btor_text source) shorter lines smaller_text spelled text v states judged in
-    run_lifts once lifted (Some fs) command shelf out notes a s before now m ends taken w model second bytes text source own.0 v is there acc own.1 second_there own.2 own.3 sh o n memory
+    run_lifts once lifted (Some fs) command shelf out notes a s before now m ends taken w model second bytes text source own.0 v is there acc own.1 second_there own.2 own.3 well
 
 -- and so is one for the smaller text of a script's text
 pub run_responds : (once : OneGenerated) → (lifted : TracesAreLifted) (stand : SmallerTextsAreCorrect) (files : Option Files) (command : Option Command) (shelf out notes : Type 0) (a : Answer) (s : Status) (before now : Option (List ℕ)) → MayAnswer files command shelf a → Ends s a → (s ≢ status.WriteFault → now ≡ grown before (text_of a)) → (s ≡ status.WriteFault → out ⊎ notes)
     → IfSome files (λ fs. (model second bytes shorter text : List ℕ) (script : PlainScript) (lines : List Line) (w : Witness) → command ≡ Some (LiftMoxi model second) → file_at fs model ≡ Some bytes → IsInstantiated bytes script → IsSmallerText (script_lines script) shorter → SpellsLines shorter lines
-    → file_at fs second ≡ Some text → SpellsWitness lines text w → judged_btor lines w Yes → (shelf → ⊥) → (out → ⊥) → (notes → ⊥) → s ≢ status.NoMemory → (s ≡ status.Done) × ((response : List ℕ) × (now ≡ grown before response) × RespondsBack script w response))
+    → file_at fs second ≡ Some text → SpellsWitness lines text w → judged_btor lines w Yes → ((shelf → ⊥) × (out → ⊥) × (notes → ⊥)) × (s ≢ status.NoMemory) → (s ≡ status.Done) × ((response : List ℕ) × (now ≡ grown before response) × RespondsBack script w response))
 run_responds once lifted stand None command shelf out notes a s before now m ends taken w = tt
-run_responds once lifted stand (Some fs) command shelf out notes a s before now m ends taken w = λ model second bytes shorter text script lines v is there instantiated smaller_text spelled second_there states judged sh o n memory.
+run_responds once lifted stand (Some fs) command shelf out notes a s before now m ends taken w = λ model second bytes shorter text script lines v is there instantiated smaller_text spelled second_there states judged well.
     let own = accepted_before stand (script_lines script) shorter lines smaller_text spelled text v states judged in
     let answer = Done (Text (lifted_response script v)) in
-    let same = one_answer once command fs a answer (defined fs command shelf a m sh) (subst (λ c. Answers c fs answer) (sym is) (responses.accepted_answer fs model second bytes text script own.0 v there instantiated own.1 second_there own.2 own.3)) in
-    let whole : s ≢ status.WriteFault = λ f. elim (w f) [ inl r ↦ o r | inr r ↦ n r ] in
+    let same = one_answer once command fs a answer (defined fs command shelf a m well.0.0) (subst (λ c. Answers c fs answer) (sym is) (responses.accepted_answer fs model second bytes text script own.0 v there instantiated own.1 second_there own.2 own.3)) in
+    let whole : s ≢ status.WriteFault = λ f. elim (w f) [ inl r ↦ well.0.1 r | inr r ↦ well.0.2 r ] in
     elim ends [
       | inl e ↦ (e ∙ ap status_of same, (lifted_response script v, taken whole ∙ ap (λ x. grown before (text_of x)) same, lifted bytes script instantiated own.0 own.1 text v own.2 own.3))
       | inr f ↦ absurd (whole f)
     ]
 
 pub run_routes : (once : OneGenerated) → (meet : RoutesMeet) (files : Option Files) (command : Option Command) (shelf out notes : Type 0) (a : Answer) (s : Status) (before now : Option (List ℕ)) → MayAnswer files command shelf a → Ends s a → (s ≢ status.WriteFault → now ≡ grown before (text_of a)) → (s ≡ status.WriteFault → out ⊎ notes)
-    → IfSome files (λ fs. (model bytes : List ℕ) (source : PlainSource) → command ≡ Some (MoxiToBtor model) → Accepts bytes source → file_at fs model ≡ Some (moxi_text source) → length (moxi_text source) ≤ most_script_bytes → (shelf → ⊥) → (out → ⊥) → (notes → ⊥) → s ≢ status.NoMemory
+    → IfSome files (λ fs. (model bytes : List ℕ) (source : PlainSource) → command ≡ Some (MoxiToBtor model) → Accepts bytes source → file_at fs model ≡ Some (moxi_text source) → length (moxi_text source) ≤ most_script_bytes → ((shelf → ⊥) × (out → ⊥) × (notes → ⊥)) × (s ≢ status.NoMemory)
     → (s ≡ status.Done) × (now ≡ grown before (btor_text source)))
 run_routes once meet None command shelf out notes a s before now m ends taken w = tt
-run_routes once meet (Some fs) command shelf out notes a s before now m ends taken w = λ model bytes source is acc there within sh o n memory.
+run_routes once meet (Some fs) command shelf out notes a s before now m ends taken w = λ model bytes source is acc there within well.
     let answer = Done (Text (btor_text source)) in
     let made = on_read fs model (moxi_text source) most_script_bytes script_too_long OfScriptBytes answer there within (meet bytes source acc within) in
-    let same = one_answer once command fs a answer (defined fs command shelf a m sh) (subst (λ c. Answers c fs answer) (sym is) made) in
-    let whole : s ≢ status.WriteFault = λ f. elim (w f) [ inl r ↦ o r | inr r ↦ n r ] in
+    let same = one_answer once command fs a answer (defined fs command shelf a m well.0.0) (subst (λ c. Answers c fs answer) (sym is) made) in
+    let whole : s ≢ status.WriteFault = λ f. elim (w f) [ inl r ↦ well.0.1 r | inr r ↦ well.0.2 r ] in
     elim ends [
       | inl e ↦ (e ∙ ap status_of same, taken whole ∙ ap (λ x. grown before (text_of x)) same)
       | inr f ↦ absurd (whole f)
     ]
 
 pub run_returns : (once : OneGenerated) → (made : ImportsAreCorrect) → (stand : LinesAreCorrect) (files : Option Files) (command : Option Command) (shelf out notes : Type 0) (a : Answer) (s : Status) (before now : Option (List ℕ)) → MayAnswer files command shelf a → Ends s a → (s ≢ status.WriteFault → now ≡ grown before (text_of a)) → (s ≡ status.WriteFault → out ⊎ notes)
-    → IfSome files (λ fs. (model bytes : List ℕ) (lines : List Line) (script : PlainScript) → command ≡ Some (MoxiToBtor model) → SpellsLines bytes lines → file_at fs model ≡ Some (script_text lines) → IsInstantiated (script_text lines) script → (shelf → ⊥) → (out → ⊥) → (notes → ⊥) → s ≢ status.NoMemory
+    → IfSome files (λ fs. (model bytes : List ℕ) (lines : List Line) (script : PlainScript) → command ≡ Some (MoxiToBtor model) → SpellsLines bytes lines → file_at fs model ≡ Some (script_text lines) → IsInstantiated (script_text lines) script → ((shelf → ⊥) × (out → ⊥) × (notes → ⊥)) × (s ≢ status.NoMemory)
     → (s ≡ status.Done) × ((text : List ℕ) × (now ≡ grown before text) × KeepsFrames lines text))
 run_returns once made stand None command shelf out notes a s before now m ends taken w = tt
-run_returns once made stand (Some fs) command shelf out notes a s before now m ends taken w = λ model bytes lines script is spelled there instantiated sh o n memory.
+run_returns once made stand (Some fs) command shelf out notes a s before now m ends taken w = λ model bytes lines script is spelled there instantiated well.
     let answer = Done (Text (script_lines script)) in
     let made_here = on_read fs model (script_text lines) most_script_bytes script_too_long OfScriptBytes answer there instantiated.is_script.within (script, instantiated, refl) in
-    let same = one_answer once command fs a answer (defined fs command shelf a m sh) (subst (λ c. Answers c fs answer) (sym is) made_here) in
-    let whole : s ≢ status.WriteFault = λ f. elim (w f) [ inl r ↦ o r | inr r ↦ n r ] in
+    let same = one_answer once command fs a answer (defined fs command shelf a m well.0.0) (subst (λ c. Answers c fs answer) (sym is) made_here) in
+    let whole : s ≢ status.WriteFault = λ f. elim (w f) [ inl r ↦ well.0.1 r | inr r ↦ well.0.2 r ] in
     elim ends [
       | inl e ↦ (e ∙ ap status_of same, (script_lines script, taken whole ∙ ap (λ x. grown before (text_of x)) same, keeps made stand bytes lines script spelled instantiated))
       | inr f ↦ absurd (whole f)
@@ -421,12 +421,12 @@ nothing_taken zero before = grown_nothing before
 nothing_taken (suc n) before = grown_nothing before
 
 pub run_generated : (once : OneGenerated) → (n : ℕ) (a : Answer) (s : Status) (before now was is : Option (List ℕ)) → IsGenerated n a → Ends s a → IsPart before now (text_of a) → (s ≢ status.WriteFault → now ≡ grown before (text_of a)) → (s ≢ status.WriteFault → is ≡ grown was (line_of a))
-    → (s ≡ status.NoMemory) ⊎ (((s ≡ status.WriteFault) × ((b : Answer) → IsGenerated n b → IsPart before now (text_of b))) ⊎ ((b : Answer) × IsGenerated n b × (s ≡ status_of b) × (now ≡ grown before (text_of b)) × (is ≡ grown was (line_of b))))
+    → (s ≡ status.NoMemory) ⊎ (((s ≡ status.WriteFault) × ((b : Answer) → IsGenerated n b → IsPart before now (text_of b))) ⊎ ((b : Answer) × IsGenerated n b × ((s ≡ status_of b) × (now ≡ grown before (text_of b)) × (is ≡ grown was (line_of b)))))
 run_generated once n a s before now was is made ends part taken noted =
     elim ends [
       | inl e ↦
           let whole : s ≢ status.WriteFault = λ f. no_fault a (sym e ∙ f) in
-          inr (inr (a, made, e, taken whole, noted whole))
+          inr (inr (a, made, (e, taken whole, noted whole)))
       | inr f ↦ inr (inl (f, λ b other. subst (λ (x : Answer). IsPart before now (text_of x)) (once n a b made other) part))
     ]
 

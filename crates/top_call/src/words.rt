@@ -1,12 +1,12 @@
 // The commands: how words are parsed to a command, and what each command does.
-ghost use Rattle.std.specs.Prelude.{◌≡◌, ◌<◌, ℕ, map, option_map, string_bytes, IfOk, IfErr, IsErrAnd, Some};
-ghost use Rattle.text_core.specs.Outside.{HasNewFault};
-ghost use Rattle.top_call.specs.Outcome.{BeginsFor, MayAnswer};
+ghost use Rattle.std.specs.Prelude.{◌≡◌, ◌<◌, ℕ, map, option_map, IfOk, IfErr, IsErrAnd};
 ghost use Rattle.command_core.specs.Reading.{OnNoMemory, StopsUnread, StopsWith};
-ghost use Rattle.generate.specs.Generating.{IsGenerated};
 ghost use Rattle.command_core.specs.declared.answer.Stop.TheVariants as Stop;
+ghost use Rattle.generate.specs.Generating.{IsGenerated};
+ghost use Rattle.top_call.specs.Call.{MayReturn, OpensItsFiles, OpensNoSecond};
+ghost use Rattle.top_call.specs.Call.{command_in, shelf_use};
+ghost use Rattle.top_call.specs.Words as Words;
 ghost use Rattle.top_call.specs.declared.words.Command.TheVariants as Command;
-ghost use Rattle.top_call.specs.Words.{BeginsNoSecond, IsInRange, command_by, command_of, command_with, on_one, on_two, row, task_in};
 
 use btor_commands::{btor_to_moxi, judge_files, simplify_btor};
 use command_core::{Answer, Stop, cell_count, read_words};
@@ -84,7 +84,7 @@ const COMMANDS: [(&[u8], Task); 12] = [
 ///
 /// Returns None where the words are no command.
 pub fn read_command(alloc: Global, words: &Vec<String>) -> Result<Option<Command>, NoMemory>
-    ensures { IfOk result (λ command. command ≡ command_of (map string_bytes words.now.items)) }
+    ensures { IfOk result (λ command. command ≡ command_in words.now) }
 {
     match read_words(alloc, words.as_slice())? {
         Some(given) => command_by(alloc, given.positionals.as_slice(), given.property),
@@ -98,7 +98,8 @@ fn command_by(
     words: &[&str],
     property: Option<u32>,
 ) -> Result<Option<Command>, NoMemory>
-    ensures { IfOk result (λ command. command ≡ command_by (map (λ word. word.now) words.now) property) }
+    ensures { IfOk result
+        (λ command. command ≡ Words.command_by (map (λ word. word.now) words.now) property) }
 {
     let Some((word, places)) = words.split_first() else {
         return Ok(None);
@@ -116,15 +117,19 @@ pub fn answer_command<F: Shelf>(
     command: &Command,
     shelf: &mut F,
 ) -> Result<Answer, Stop>
-    requires range { IsInRange command.now }
-    ensures answer { IfOk result (MayAnswer (F.files shelf.old) (Some command.now) (HasNewFault (F.faults shelf.old) (F.faults shelf.new))) }
-    ensures stop { IfErr result (StopsWith (MayAnswer (F.files shelf.old) (Some command.now) (HasNewFault (F.faults shelf.old) (F.faults shelf.new)))) }
+    requires range { Words.IsInRange command.now }
+    ensures answer { IfOk result (MayReturn (shelf_use F.Shelf shelf) (Some command.now)) }
+    ensures stop { IfErr result
+        (StopsWith (MayReturn (shelf_use F.Shelf shelf) (Some command.now))) }
     // A generated model's answer is defined whatever the shelf exposes.
     ensures generated { (n : ℕ) → command.now ≡ Command.Generate n → IfOk result (IsGenerated n) }
-    ensures ungenerated { (n : ℕ) → command.now ≡ Command.Generate n → IfErr result (λ stop. stop ≡ Stop.NoMemory) }
-    ensures fault { F.faults shelf.old < F.faults shelf.new → IsErrAnd result (λ stop. StopsUnread stop) }
-    ensures begun { BeginsFor (F.files shelf.old) (F.begun shelf.old) (F.begun shelf.new) (Some command.now) }
-    ensures memory { IfErr result (OnNoMemory (BeginsNoSecond (F.files shelf.old) (F.begun shelf.old) (F.begun shelf.new) (Some command.now))) }
+    ensures ungenerated { (n : ℕ) → command.now ≡ Command.Generate n
+        → IfErr result (λ stop. stop ≡ Stop.NoMemory) }
+    ensures fault { F.faults shelf.old < F.faults shelf.new
+        → IsErrAnd result (λ stop. StopsUnread stop) }
+    ensures begun { OpensItsFiles (shelf_use F.Shelf shelf) (Some command.now) }
+    ensures memory { IfErr result
+        (OnNoMemory (OpensNoSecond (shelf_use F.Shelf shelf) (Some command.now))) }
     ensures files { F.files shelf.new ≡ F.files shelf.old }
 {
     match command {
@@ -145,7 +150,7 @@ pub fn answer_command<F: Shelf>(
 
 // The task of the first row with this word.
 fn task_in(table: &[(&[u8], Task)], word: &[u8]) -> Option<Task>
-    ensures { result ≡ task_in (map row table.now) word.now }
+    ensures { result ≡ Words.task_in (map Words.row table.now) word.now }
 {
     for (written, task) in table {
         if word == *written {
@@ -162,7 +167,8 @@ fn command_with(
     places: &[&str],
     property: Option<u32>,
 ) -> Result<Option<Command>, NoMemory>
-    ensures { IfOk result (λ command. command ≡ command_with task (map (λ place. place.now) places.now) property) }
+    ensures { let given = map (λ place. place.now) places.now in
+        IfOk result (λ command. command ≡ Words.command_with task given property) }
 {
     match (places, property) {
         ([word], None) => command_on_one(alloc, task, word),
@@ -173,7 +179,7 @@ fn command_with(
 
 // The task on one file, or on a number of cells.
 fn command_on_one(alloc: Global, task: Task, word: &str) -> Result<Option<Command>, NoMemory>
-    ensures { IfOk result (λ command. command ≡ on_one task word.now) }
+    ensures { IfOk result (λ command. command ≡ Words.on_one task word.now) }
 {
     match task {
         Task::SmvToBtor => Ok(Some(Command::SmvToBtor(name_of(alloc, word)?))),
@@ -203,7 +209,7 @@ fn command_on_two(
     second: &str,
     property: Option<u32>,
 ) -> Result<Option<Command>, NoMemory>
-    ensures { IfOk result (λ command. command ≡ on_two task model.now second.now property) }
+    ensures { IfOk result (λ command. command ≡ Words.on_two task model.now second.now property) }
 {
     let model = name_of(alloc, model)?;
     let second = name_of(alloc, second)?;
@@ -211,7 +217,7 @@ fn command_on_two(
 }
 
 fn on_two(task: Task, model: Name, second: Name, property: Option<u32>) -> Option<Command>
-    ensures { result ≡ on_two task model second property }
+    ensures { result ≡ Words.on_two task model second property }
 {
     match (task, property) {
         (Task::JudgeBtor, None) => Some(Command::JudgeBtor(model, second)),
