@@ -1,5 +1,5 @@
 // Single nodes of flat expressions, and lists of them.
-ghost use Rattle.std.specs.Prelude.{◌≡◌, ◌++◌, ◌∷◌, [], ◌||◌, IfOk, IfErr, OnOk, map, option_map};
+ghost use Rattle.std.specs.Prelude.{◌≡◌, ◌++◌, ◌∷◌, [], ◌||◌, false, IfOk, IfErr, OnOk, map, option_map};
 ghost use Rattle.text_core.specs.declared.end.End.TheVariants as OfEnd;
 ghost use Rattle.smv_intervals.specs.View.{seen};
 ghost use Rattle.smv_flat.specs.FlatView.{plain_flat, plain_flat_link, plain_flat_branch, IsChained, IsNodeOf, IsRetyped};
@@ -8,7 +8,7 @@ use crate::expressions::{
     FlatBranch, FlatBranches, FlatExpr, FlatExprs, FlatLink, FlatLinks, FlatShape,
 };
 use smv_intervals::Ty;
-use smv_text::Infix;
+use smv_text::{Infix, Link};
 use smv_types::CheckEnd;
 use smv_types::lists::BranchTypes;
 use std::alloc::Global;
@@ -120,6 +120,52 @@ pub fn either(a: bool, b: bool) -> bool
     a || b
 }
 
+/// Returns the empty list of arguments or elements, with room for `count`.
+pub fn no_parts(alloc: Global, count: usize) -> Result<Parts, NoMemory>
+    ensures exprs { IfOk result (λ v. v.exprs.items ≡ []) }
+    ensures types { IfOk result (λ v. v.types.items ≡ []) }
+    ensures inputs { IfOk result (λ v. v.reaches_input ≡ false) }
+{
+    Ok(Parts {
+        exprs: Vec::with_capacity(alloc, count)?,
+        types: Vec::with_capacity(alloc, count)?,
+        reaches_input: false,
+    })
+}
+
+/// Returns the operands of a chain that has only its first one so far, with room for these links.
+pub fn first_operand(alloc: Global, first: Option<Ty>, links: &[Link]) -> Result<Operands, NoMemory>
+    ensures links { IfOk result (λ v. v.links.items ≡ []) }
+    ensures types { IfOk result (λ v. v.types.items ≡ first ∷ []) }
+    ensures inputs { IfOk result (λ v. v.reaches_input ≡ false) }
+{
+    let mut types = Vec::with_capacity(alloc, links.len() + 1)?;
+    types.push(first)?;
+    Ok(Operands {
+        links: Vec::with_capacity(alloc, links.len())?,
+        types,
+        reaches_input: false,
+    })
+}
+
+/// Returns the empty list of branches, with room for `count`.
+pub fn no_cases(alloc: Global, count: usize) -> Result<Cases, NoMemory>
+    ensures branches { IfOk result (λ v. v.branches.items ≡ []) }
+    ensures conditions { IfOk result (λ v. v.types.conditions.items ≡ []) }
+    ensures values { IfOk result (λ v. v.types.values.items ≡ []) }
+    ensures set { IfOk result (λ v. v.has_set ≡ false) }
+    ensures inputs { IfOk result (λ v. v.reaches_input ≡ false) }
+{
+    let conditions = Vec::with_capacity(alloc, count)?;
+    let values = Vec::with_capacity(alloc, count)?;
+    Ok(Cases {
+        branches: Vec::with_capacity(alloc, count)?,
+        types: BranchTypes { conditions, values },
+        has_set: false,
+        reaches_input: false,
+    })
+}
+
 /// Appends an argument or an element.
 pub fn add_part(parts: &mut Parts, part: Typed) -> Result<(), NoMemory>
     ensures exprs { OnOk result (map plain_flat parts.new.exprs.items ≡ map plain_flat parts.old.exprs.items ++ plain_flat part.expr ∷ []) }
@@ -127,8 +173,9 @@ pub fn add_part(parts: &mut Parts, part: Typed) -> Result<(), NoMemory>
     ensures inputs { OnOk result (parts.new.reaches_input ≡ (parts.old.reaches_input || part.reaches_input)) }
 {
     parts.reaches_input = either(parts.reaches_input, part.reaches_input);
-    parts.types.push(part.ty)?;
-    Ok(parts.exprs.push(part.expr)?)
+    let ty = part.ty;
+    parts.exprs.push(part.expr)?;
+    Ok(parts.types.push(ty)?)
 }
 
 /// Appends an operator and its operand.
@@ -136,6 +183,18 @@ pub fn add_link(links: &mut FlatLinks, op: Infix, operand: FlatExpr) -> Result<(
     ensures { OnOk result (map plain_flat_link links.new.items ≡ map plain_flat_link links.old.items ++ (op, plain_flat operand) ∷ []) }
 {
     Ok(links.push(FlatLink { op, operand })?)
+}
+
+/// Appends an operator and its operand, with the operand's type.
+pub fn add_operand(operands: &mut Operands, op: Infix, operand: Typed) -> Result<(), NoMemory>
+    ensures links { OnOk result (map plain_flat_link operands.new.links.items ≡ map plain_flat_link operands.old.links.items ++ (op, plain_flat operand.expr) ∷ []) }
+    ensures types { OnOk result (operands.new.types.items ≡ operands.old.types.items ++ operand.ty ∷ []) }
+    ensures inputs { OnOk result (operands.new.reaches_input ≡ (operands.old.reaches_input || operand.reaches_input)) }
+{
+    operands.reaches_input = either(operands.reaches_input, operand.reaches_input);
+    let ty = operand.ty;
+    add_link(&mut operands.links, op, operand.expr)?;
+    Ok(operands.types.push(ty)?)
 }
 
 /// Appends a branch.
@@ -149,9 +208,11 @@ pub fn add_branch(cases: &mut Cases, when: Typed, value: Typed) -> Result<(), No
     cases.has_set = either(cases.has_set, value.is_set);
     let reaches_input = either(when.reaches_input, value.reaches_input);
     cases.reaches_input = either(cases.reaches_input, reaches_input);
-    cases.types.conditions.push(when.ty)?;
-    cases.types.values.push(value.ty)?;
-    push_branch(&mut cases.branches, when.expr, value.expr)
+    let condition = when.ty;
+    let chosen = value.ty;
+    push_branch(&mut cases.branches, when.expr, value.expr)?;
+    cases.types.conditions.push(condition)?;
+    Ok(cases.types.values.push(chosen)?)
 }
 
 #[tactic(auto, using(crate::proofs::FlatViews::branch_pushed))]

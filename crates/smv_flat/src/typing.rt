@@ -20,15 +20,15 @@ ghost use Rattle.smv_flat.specs.FlatView.{plain_flat, plain_flat_link, plain_fla
 use crate::expressions::FlatShape;
 use crate::naming::{Naming, Untranslated};
 use crate::nodes::{
-    Cases, Operands, Parts, Rest, Typed, add_branch, add_link, add_part, boxed, chained, either,
-    node, retyped,
+    Cases, Operands, Parts, Rest, Typed, add_branch, add_link, add_operand, add_part, boxed,
+    chained, either, first_operand, no_cases, no_parts, node, retyped,
 };
 use smv_intervals::Ty;
 use smv_items::Leaf;
 use smv_text::{Branch, Expr, Function, Link, Path, Prefix, Shape};
 use smv_types::calls::check_call;
 use smv_types::chains::{are_unions, check_front, first_standing, is_from_right, operand_standing};
-use smv_types::lists::{BranchTypes, check_branches, check_implication, check_set};
+use smv_types::lists::{check_branches, check_implication, check_set};
 use smv_types::nodes::{check_next, check_range, check_selection, check_sign, name, number};
 use smv_types::{CheckEnd, Permissions, Position, Scope, answered};
 use std::alloc::Global;
@@ -303,21 +303,12 @@ fn operands_typed<C: Naming>(
     ensures inputs { IfOk result (λ v. v.reaches_input ≡ links_reach (C.names scope.now) (links_of (map plain_link links.now))) }
     ensures refused { IfErr result (λ e. IsBad e (first_failing (link_checks (C.names scope.now) (permissions_seen at) (links_of (map plain_link links.now))))) }
 {
-    let mut operands = Vec::with_capacity(alloc, links.len())?;
-    let mut types = Vec::with_capacity(alloc, links.len() + 1)?;
-    types.push(first)?;
-    let mut reaches_input = false;
+    let mut operands = first_operand(alloc, first, links)?;
     for link in links {
         let x = typed(alloc, scope, &link.operand, at, under)?;
-        reaches_input = either(reaches_input, x.reaches_input);
-        types.push(x.ty)?;
-        add_link(&mut operands, link.op, x.expr)?;
+        add_operand(&mut operands, link.op, x)?;
     }
-    Ok(Operands {
-        links: operands,
-        types,
-        reaches_input,
-    })
+    Ok(operands)
 }
 
 // The checks of each prefix of a chain in turn.
@@ -342,9 +333,10 @@ fn fronts_typed<C: Naming>(
     for link in links {
         let standing = operand_standing(link.op, at);
         let x = typed(alloc, scope, &link.operand, standing, under)?;
-        whole = answered(check_front(link.op, at, place, whole, x.ty, &link.operand))?;
+        let ty = x.ty;
         reaches_input = either(reaches_input, x.reaches_input);
         add_link(&mut operands, link.op, x.expr)?;
+        whole = answered(check_front(link.op, at, place, whole, ty, &link.operand))?;
     }
     Ok(Rest {
         links: operands,
@@ -409,11 +401,7 @@ fn parts_typed<C: Naming>(
     ensures inputs { IfOk result (λ v. v.reaches_input ≡ trees_reach (C.names scope.now) (trees_of (map plain parts.now))) }
     ensures refused { IfErr result (λ e. IsBad e (first_failing (tree_checks (C.names scope.now) (permissions_seen at) (trees_of (map plain parts.now))))) }
 {
-    let mut all = Parts {
-        exprs: Vec::with_capacity(alloc, parts.len())?,
-        types: Vec::with_capacity(alloc, parts.len())?,
-        reaches_input: false,
-    };
+    let mut all = no_parts(alloc, parts.len())?;
     for part in parts {
         let x = typed(alloc, scope, part, at, under)?;
         add_part(&mut all, x)?;
@@ -489,15 +477,7 @@ fn branches_typed<C: Naming>(
     ensures inputs { IfOk result (λ v. v.reaches_input ≡ branches_reach (C.names scope.now) (branches_of (map plain_branch branches.now))) }
     ensures refused { IfErr result (λ e. IsBad e (first_failing (branch_checks (C.names scope.now) (permissions_seen at) (branches_of (map plain_branch branches.now))))) }
 {
-    let mut cases = Cases {
-        branches: Vec::with_capacity(alloc, branches.len())?,
-        types: BranchTypes {
-            conditions: Vec::with_capacity(alloc, branches.len())?,
-            values: Vec::with_capacity(alloc, branches.len())?,
-        },
-        has_set: false,
-        reaches_input: false,
-    };
+    let mut cases = no_cases(alloc, branches.len())?;
     for branch in branches {
         let when = typed(alloc, scope, &branch.when, at.without_sets(), under)?;
         let value = typed(alloc, scope, &branch.value, at, under)?;

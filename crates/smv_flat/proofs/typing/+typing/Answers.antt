@@ -369,13 +369,13 @@ operands_typed-loop-link-preserved g t c =
       known = links_still (g.C.Naming.knows c.args.scope.now) xs rest c.link-item.result c.loop-link.link-index s c.loop-link.invariant.known;
       passes = links_go names at xs rest c.link-item.result c.loop-link.link-index (option_map seen c.in_ok-x.x.ty) s c.loop-link.invariant.passes c.in_ok-x.ensures.0;
       types =
-          rw c.in_ok-push-2.ensures.items (
-          links_more names at c.loop-link.types.items xs rest c.link-item.result c.loop-link.link-index c.in_ok-x.x.ty
+          rw c.in_ok-add_operand.ensures.types (
+          links_more names at c.loop-link.operands.types.items xs rest c.link-item.result c.loop-link.link-index c.in_ok-x.x.ty
           (option_map seen c.args.first ∷ link_types names at (links_of (map plain_link xs))) s c.loop-link.invariant.types c.in_ok-x.ensures.0
           );
-      links = grown (map plain_flat_link c.loop-link.operands.items) (map plain_flat_link c.add_link.new.links.items) (map (same_flat names leaf at c.args.under) xs) (c.link-item.result.op, plain_flat c.in_ok-x.x.expr)
-          (same_flat names leaf at c.args.under) c.link-item.result xs rest c.loop-link.link-index c.in_ok-add_link.ensures (ap (λ z. (c.link-item.result.op, z)) c.in_ok-x.ensures.1) s c.loop-link.invariant.links;
-      inputs = any_grown (link_reaches names) c.loop-link.reaches_input c.either-reaches_input.result c.in_ok-x.x.reaches_input (list_any (link_reaches names) xs) c.link-item.result xs rest c.loop-link.link-index c.either-reaches_input.ensures c.in_ok-x.ensures.3 s c.loop-link.invariant.inputs;
+      links = grown (map plain_flat_link c.loop-link.operands.links.items) (map plain_flat_link c.add_operand.new.operands.links.items) (map (same_flat names leaf at c.args.under) xs) (c.link-item.result.op, plain_flat c.in_ok-x.x.expr)
+          (same_flat names leaf at c.args.under) c.link-item.result xs rest c.loop-link.link-index c.in_ok-add_operand.ensures.links (ap (λ z. (c.link-item.result.op, z)) c.in_ok-x.ensures.1) s c.loop-link.invariant.links;
+      inputs = any_grown (link_reaches names) c.loop-link.operands.reaches_input c.add_operand.new.operands.reaches_input c.in_ok-x.x.reaches_input (list_any (link_reaches names) xs) c.link-item.result xs rest c.loop-link.link-index c.in_ok-add_operand.ensures.inputs c.in_ok-x.ensures.3 s c.loop-link.invariant.inputs;
     }
 
 pub operands_typed-returns-clause-links : goal.operands_typed-returns-clause-links
@@ -384,7 +384,7 @@ operands_typed-returns-clause-links g t c =
     let leaf = g.C.Naming.leaves c.args.scope.now in
     let at = permissions_seen c.args.at in
     let xs = c.args.links.now in
-    ap flat_links_of (finished (map plain_flat_link c.loop-link.operands.items) (map (same_flat names leaf at c.args.under) xs) (same_flat names leaf at c.args.under) xs c.loop-link.link-index c.loop-link-test.false c.loop-link.invariant.links)
+    ap flat_links_of (finished (map plain_flat_link c.loop-link.operands.links.items) (map (same_flat names leaf at c.args.under) xs) (same_flat names leaf at c.args.under) xs c.loop-link.link-index c.loop-link-test.false c.loop-link.invariant.links)
     ∙ same_are names leaf at c.args.under xs
 
 pub fronts_typed-returns-in_err-x-clause-types : goal.fronts_typed-returns-in_err-x-clause-types
@@ -445,7 +445,7 @@ pub operands_typed-returns-clause-inputs : goal.operands_typed-returns-clause-in
 operands_typed-returns-clause-inputs g t c =
     let names = g.C.Naming.names c.args.scope.now in
     let xs = c.args.links.now in
-    any_finished (link_reaches names) c.loop-link.reaches_input (list_any (link_reaches names) xs) xs c.loop-link.link-index c.loop-link-test.false c.loop-link.invariant.inputs ∙ any_link names xs
+    any_finished (link_reaches names) c.loop-link.operands.reaches_input (list_any (link_reaches names) xs) xs c.loop-link.link-index c.loop-link-test.false c.loop-link.invariant.inputs ∙ any_link names xs
 
 pub fronts_typed-returns-clause-inputs : goal.fronts_typed-returns-clause-inputs
 fronts_typed-returns-clause-inputs g t c =

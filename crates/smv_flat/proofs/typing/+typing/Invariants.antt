@@ -26,11 +26,11 @@ invariant-operands_typed-loop-link g l = record {
   known : IsTrue (links_known (g.C.Naming.knows l.scope) (links_of (map plain_link (drop l.link-index l.links))));
   passes : first_failing (link_checks (g.C.Naming.names l.scope) (permissions_seen l.at) (links_of (map plain_link l.links)))
       ≡ first_failing (link_checks (g.C.Naming.names l.scope) (permissions_seen l.at) (links_of (map plain_link (drop l.link-index l.links))));
-  types : map (option_map seen) l.types.items ++ link_types (g.C.Naming.names l.scope) (permissions_seen l.at) (links_of (map plain_link (drop l.link-index l.links)))
+  types : map (option_map seen) l.operands.types.items ++ link_types (g.C.Naming.names l.scope) (permissions_seen l.at) (links_of (map plain_link (drop l.link-index l.links)))
       ≡ option_map seen l.fn.first ∷ link_types (g.C.Naming.names l.scope) (permissions_seen l.at) (links_of (map plain_link l.links));
-  links : map plain_flat_link l.operands.items ++ map (same_flat (g.C.Naming.names l.scope) (g.C.Naming.leaves l.scope) (permissions_seen l.at) l.under) (drop l.link-index l.links)
+  links : map plain_flat_link l.operands.links.items ++ map (same_flat (g.C.Naming.names l.scope) (g.C.Naming.leaves l.scope) (permissions_seen l.at) l.under) (drop l.link-index l.links)
       ≡ map (same_flat (g.C.Naming.names l.scope) (g.C.Naming.leaves l.scope) (permissions_seen l.at) l.under) l.links;
-  inputs : (l.reaches_input || list_any (link_reaches (g.C.Naming.names l.scope)) (drop l.link-index l.links)) ≡ list_any (link_reaches (g.C.Naming.names l.scope)) l.links;
+  inputs : (l.operands.reaches_input || list_any (link_reaches (g.C.Naming.names l.scope)) (drop l.link-index l.links)) ≡ list_any (link_reaches (g.C.Naming.names l.scope)) l.links;
 }
 
 abbrev pub invariant-parts_typed-loop-part : goal.invariant-parts_typed-loop-part
