@@ -1,5 +1,5 @@
 -- The value of an expression of a model is safely found.
-use Rattle.std.proofs.Common.{not, ◌||◌, true, Some, None, ◌≡◌, ℕ, List, [], map, Option, is_some, refl, sym, ap, ◌∙◌, subst, Bool}
+use Rattle.std.proofs.Common.{not, ◌||◌, true, Some, None, ◌≡◌, ℕ, List, [], map, is_some, refl, sym, ap, ◌∙◌, subst, Bool}
 use Rattle.std.proofs.Common.{Result, IfOk}
 use Rattle.text_core.specs.declared.errors.NoMemory.{NoMemory}
 use Rattle.std.specs.Borrow.{Bor}
@@ -7,7 +7,6 @@ use Rattle.std.specs.HashMap.{HashMap}
 use Rattle.smv_text.specs.declared.tree.Path.{Path}
 use Rattle.smv_text.specs.Tree.{Tree, PlainSource}
 use Rattle.smv_meaning.specs.declared.value.Value.{Value}
-use Rattle.smv_meaning.specs.declared.value.Given.{Given}
 use Rattle.smv_evaluation.specs.declared.rows.Values.{Values}
 use Rattle.smv_evaluation.specs.declared.rows.Row.{Row}
 use Rattle.smv_instances.specs.declared.instances.Instance.{Instance as PartOf}
@@ -23,9 +22,8 @@ use Rattle.smv_meaning.specs.Runs.{state_fits, label_fits}
 use Rattle.smv_meaning.specs.Typed.{Gives}
 use Rattle.smv_instances.specs.View.{instance_plain}
 use Rattle.smv_evaluation.specs.View.{stated}
-use Rattle.smv_meaning.specs.Literals.{words_fit}
-use Rattle.smv_meaning.specs.Parts.{OccursIn}
-use Rattle.smv_meaning.specs.Checked.{IsChecked, all_trees, reaches_an_input}
+use Rattle.smv_evaluation.specs.Asked.{States, IsAsked, value_asked}
+use Rattle.smv_meaning.specs.Checked.{IsChecked}
 use Rattle.smv_evaluation.specs.Rows.{AreGiven, row_reads, FoundIsCached, IsCached, is_marked, MarksStart, MarksLeast, LocalSafe, MarkedSafe, MarkedAreCached}
 use Rattle.smv_meaning.specs.Reached.{is_body_of}
 use Rattle.smv_laws.proofs.Cycles.{In, in_any, same_self}
@@ -35,23 +33,10 @@ use Rattle.smv_laws.proofs.SafeExpressions.{acyclic, expressions_are_safe_law, l
 use Rattle.smv_laws.proofs.FoundLaws.{gives_found}
 use Rattle.smv_evaluation.proofs.RowReads.{safe_holds, kept, safely_kept, denoted_kept}
 
-abbrev pub States : Type 0
-States = Option (Bor (List Given))
-
--- what the caller owes
-pub record Asked (t : List Instance) (i : ℕ) (e : Tree) (state : Valuation) (label following : States) : Type 0 where
-  pub checked : IsChecked t
-  pub words : all_trees words_fit t ≡ true
-  pub occurs : OccursIn t i e
-  pub reach : (is_some label || not (reaches_an_input t i e)) ≡ true
-  pub now_fits : state_fits t state ≡ true
-  pub label_fits : label_given t label ≡ true
-  pub next_fits : following_given t following ≡ true
-
 -- in the code's table
-pub asked_at : (ts : List PartOf) (t : List Instance) (i k : ℕ) (e : Tree) (state : Valuation) (label following : States) → map instance_plain ts ≡ t → i ≡ k → Asked t k e state label following → Asked (map instance_plain ts) i e state label following
+pub asked_at : (ts : List PartOf) (t : List Instance) (i k : ℕ) (e : Tree) (state : Valuation) (label following : States) → map instance_plain ts ≡ t → i ≡ k → IsAsked t k e state label following → IsAsked (map instance_plain ts) i e state label following
 asked_at ts t i k e state label following et ei a =
-    subst (λ u. Asked u i e state label following) (sym et) (subst (λ j. Asked t j e state label following) (sym ei) a)
+    subst (λ u. IsAsked u i e state label following) (sym et) (subst (λ j. IsAsked t j e state label following) (sym ei) a)
 
 label_there : (t : List Instance) (label : States) → label_given t label ≡ true → is_some label ≡ true → label_fits t (stated label) ≡ true
 label_there t None h e = cc
@@ -61,15 +46,15 @@ following_there : (t : List Instance) (state : Valuation) (following : States) �
 following_there t state None h k = h
 following_there t state (Some f) h k = k
 
-pub gives_now : (t : List Instance) (i : ℕ) (e : Tree) (state : Valuation) (label following : States) → Asked t i e state label following → Gives (is_some label) (found_in t) state (stated label)
+pub gives_now : (t : List Instance) (i : ℕ) (e : Tree) (state : Valuation) (label following : States) → IsAsked t i e state label following → Gives (is_some label) (found_in t) state (stated label)
 gives_now t i e state label following a = gives_found (is_some label) t state (stated label) a.now_fits (label_there t label a.label_fits)
 
-pub gives_later : (t : List Instance) (i : ℕ) (e : Tree) (state : Valuation) (label following : States) → Asked t i e state label following → Gives (is_some label) (found_in t) (following_or state following) (stated label)
+pub gives_later : (t : List Instance) (i : ℕ) (e : Tree) (state : Valuation) (label following : States) → IsAsked t i e state label following → Gives (is_some label) (found_in t) (following_or state following) (stated label)
 gives_later t i e state label following a =
     gives_found (is_some label) t (following_or state following) (stated label) (following_there t state following a.now_fits a.next_fits) (label_there t label a.label_fits)
 
 -- what is marked is safely evaluated in each of the states
-pub marked_safe : {S : Type 0} (t : List Instance) (i : ℕ) (e : Tree) (state : Valuation) (label following : States) → Asked t i e state label following
+pub marked_safe : {S : Type 0} (t : List Instance) (i : ℕ) (e : Tree) (state : Valuation) (label following : States) → IsAsked t i e state label following
     → (marks : HashMap (ℕ × Bor (List ℕ)) Bool S) → MarksLeast t i e marks → (s : Valuation) → Gives (is_some label) (found_in t) s (stated label) → MarkedSafe t marks s (stated label)
 marked_safe t i e state label following a marks least s gives k x m =
     by (local t k x) refl
@@ -100,7 +85,7 @@ found_kept ts marks row label h rank (symbol_of x) u s = tt
 found_kept ts marks row label h rank cyclic u s = tt
 found_kept ts marks row label h rank none u s = tt
 
-pub safe_at : {S : Type 0} (ts : List PartOf) (i : ℕ) (e : Tree) (state : Valuation) (label following : States) → Asked (map instance_plain ts) i e state label following
+pub safe_at : {S : Type 0} (ts : List PartOf) (i : ℕ) (e : Tree) (state : Valuation) (label following : States) → IsAsked (map instance_plain ts) i e state label following
     → (marks : HashMap (ℕ × Bor (List ℕ)) Bool S) → MarksStart (map instance_plain ts) i e marks → (here later : Row) (labels : Values) → labels.given ≡ label → AreGiven labels
     → IsRow ts marks here labels state → IsRow ts marks later labels (following_or state following)
     → Safe (IsCached ts i here labels) (IsCached ts i later labels) (row_reads ts i here labels) (row_reads ts i later labels) e
@@ -122,17 +107,21 @@ safe_at ts i e state label following a marks start here later labels el right r 
         (all_under (map instance_plain ts) (rank_of (map instance_plain ts)) (ranking (map instance_plain ts) (acyclic (map instance_plain ts) a.checked)) i q)
         (λ k x b. start k x (in_any (λ z. is_body_of k x (found_in (map instance_plain ts) i z)) q (paths_of e []) g b)))
 
-pub value_is : (ts : List PartOf) (source : PlainSource) (i k : ℕ) (e : Tree) (state later : Valuation) (label : States) (here there : Row) (labels : Values)
-    → map instance_plain ts ≡ instances_of source → i ≡ k → IsChecked (map instance_plain ts)
-    → stated here.state.given ≡ state → stated there.state.given ≡ later → labels.given ≡ label
-    → (denote (row_reads ts i here labels) (row_reads ts i there labels) e).value ≡ value_of source k e state (stated label) later
-value_is ts source i k e state later label here there labels et ei checked es ef el =
-    denoted_kept ts (acyclic (map instance_plain ts) checked) i here there labels e
-    ∙ ap (λ u. (denoted (found_in u) (steps_of u) i e (stated here.state.given) (stated labels.given) (stated there.state.given)).value) et
-    ∙ ap (λ s. (denoted (found_in (instances_of source)) (steps_of (instances_of source)) i e s (stated labels.given) (stated there.state.given)).value) es
-    ∙ ap (λ r. (denoted (found_in (instances_of source)) (steps_of (instances_of source)) i e state (stated labels.given) r).value) ef
-    ∙ ap (λ (o : States). (denoted (found_in (instances_of source)) (steps_of (instances_of source)) i e state (stated o) later).value) el
-    ∙ ap (λ j. value_of source j e state (stated label) later) ei
+pub value_is : (ts : List PartOf) (i : ℕ) (e : Tree) (state : Valuation) (label following : States) (here there : Row) (labels : Values)
+    → IsChecked (map instance_plain ts) → stated here.state.given ≡ state → stated there.state.given ≡ following_or state following → labels.given ≡ label
+    → (denote (row_reads ts i here labels) (row_reads ts i there labels) e).value ≡ value_asked (map instance_plain ts) i e state label following
+value_is ts i e state label following here there labels checked es ef el =
+    let t = map instance_plain ts in
+    denoted_kept ts (acyclic t checked) i here there labels e
+    ∙ ap (λ s. (denoted (found_in t) (steps_of t) i e s (stated labels.given) (stated there.state.given)).value) es
+    ∙ ap (λ r. (denoted (found_in t) (steps_of t) i e state (stated labels.given) r).value) ef
+    ∙ ap (λ (o : States). (denoted (found_in t) (steps_of t) i e state (stated o) (following_or state following)).value) el
+
+-- in the code's table
+pub asked_in : (ts : List PartOf) (source : PlainSource) (i k : ℕ) (e : Tree) (state : Valuation) (label following : States) → map instance_plain ts ≡ instances_of source → i ≡ k
+    → value_asked (map instance_plain ts) i e state label following ≡ value_of source k e state (stated label) (following_or state following)
+asked_in ts source i k e state label following et ei =
+    ap (λ u. value_asked u i e state label following) et ∙ ap (λ j. value_asked (instances_of source) j e state label following) ei
 
 pub other_value : (r : Result Value NoMemory) (v w : Value) → v ≡ w → IfOk r (λ x. x ≡ v) → IfOk r (λ x. x ≡ w)
 other_value r v w e h = subst (λ y. IfOk r (λ x. x ≡ y)) e h

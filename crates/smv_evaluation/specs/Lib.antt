@@ -1,3 +1,4 @@
 pub mod View
 pub mod Dotting
 pub mod Rows
+pub mod Asked

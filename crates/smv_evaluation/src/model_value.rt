@@ -10,12 +10,14 @@ ghost use Rattle.smv_meaning.specs.Parts.{OccursIn};
 ghost use Rattle.smv_meaning.specs.Checked.{IsChecked, reaches_an_input};
 ghost use Rattle.smv_instances.specs.View.{instance_plain};
 ghost use Rattle.smv_evaluation.specs.View.{stated};
+ghost use Rattle.smv_evaluation.specs.Asked.{IsAsked, value_asked};
+ghost use Rattle.smv_evaluation.specs.Rows.{AreGiven, IsOrdered, MarksStart, MarksClosed, MarksLeast};
 
 use crate::evaluate::{Scene, evaluate};
 use crate::fill::row_of;
 use crate::literals::literals_are_words;
-use crate::reached::reach_of;
-use crate::rows::values_of;
+use crate::reached::{Reach, reach_of};
+use crate::rows::{Values, values_of};
 use smv_instances::{Instance, Table, instance_list as instances};
 use smv_meaning::{State, Value};
 use smv_operators::into_value;
@@ -73,20 +75,58 @@ pub fn value_at<'a>(
     literals_are_words(parts.as_slice());
     let i = number_of(parts.as_slice(), instance.bytes());
     let table = Table::over(alloc, parts)?;
-    let reach = reach_of(alloc, &table, i, expr)?;
+    value_in_table(alloc, &table, i, expr, now, label, following)
+}
+
+// The value in a table of the model's instances.
+fn value_in_table<'a>(
+    alloc: Global,
+    table: &Table<'a>,
+    i: usize,
+    expr: &'a Expr,
+    now: &'a State,
+    label: Option<&'a State>,
+    following: Option<&'a State>,
+) -> Result<Value, NoMemory>
+    requires { IsAsked (map instance_plain table.now) i (plain expr.now) (given now.now) label following }
+    ensures { IfOk result (λ v. v ≡ value_asked (map instance_plain table.now) i (plain expr.now) (given now.now) label.entry following.entry) }
+{
+    let reach = reach_of(alloc, table, i, expr)?;
     let label = values_of(alloc, label)?;
-    let here = row_of(alloc, &table, &reach, now, &label)?;
+    value_on_rows(alloc, table, &reach, i, expr, now, &label, following)
+}
+
+// The value, given what the expression reaches and the values of the label.
+fn value_on_rows<'a>(
+    alloc: Global,
+    table: &Table<'a>,
+    reach: &Reach<'a>,
+    i: usize,
+    expr: &'a Expr,
+    now: &'a State,
+    label: &Values<'a>,
+    following: Option<&'a State>,
+) -> Result<Value, NoMemory>
+    requires asked { IsAsked (map instance_plain table.now) i (plain expr.now) (given now.now) label.now.given following }
+    requires ordered { IsOrdered (map instance_plain table.now) reach.now }
+    requires starts { MarksStart (map instance_plain table.now) i (plain expr.now) reach.now.marks }
+    requires closed { MarksClosed (map instance_plain table.now) reach.now.marks }
+    requires least { MarksLeast (map instance_plain table.now) i (plain expr.now) reach.now.marks }
+    requires label { AreGiven label.now }
+    ensures { IfOk result (λ v. v ≡ value_asked (map instance_plain table.now) i (plain expr.now) (given now.now) label.now.given following.entry) }
+{
+    let here = row_of(alloc, table, reach, now, label)?;
     let scene = Scene {
-        table: &table,
+        table,
         instance: i,
         current: &here,
-        label: &label,
+        label,
         following: &here,
     };
     match following {
         None => into_value(alloc, evaluate(&scene, expr)),
         Some(later) => {
-            let there = row_of(alloc, &table, &reach, later, &label)?;
+            let there = row_of(alloc, table, reach, later, label)?;
             let scene = Scene {
                 following: &there,
                 ..scene
