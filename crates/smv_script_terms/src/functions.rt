@@ -14,7 +14,7 @@ ghost use Rattle.moxi_terms.specs.Applications.{one, equal_term, choice_term};
 
 use crate::coding::Subject;
 use crate::constants::{integer_term, subject_term, word_term};
-use crate::operands::{amount_of, bound_to, word_width};
+use crate::operands::{amount_of, bound_in, bound_to, word_width};
 use crate::operators::{apply_one, apply_two, choice, nothing, several};
 use moxi_terms::{Term, TermOp, Terms};
 use smv_flat::FlatExpr;
@@ -151,24 +151,35 @@ fn only_of(terms: Terms) -> Option<Term>
     if terms.len() == 1 { terms.pop() } else { None }
 }
 
+// The lesser or the greater of the bound names k and k + 1.
+fn pair_body(alloc: Global, k: u32, lesser: bool) -> Result<Term, NoMemory>
+    requires bound { k + 1 < 2 ^ 32 }
+    ensures { IfOk result (λ t. plain t ≡ pair_body k lesser) }
+{
+    let next = k + 1;
+    let slt = TermOp::BvBinary(Binary::Slt);
+    let below = apply_two(alloc, slt, Term::Bound(k), Term::Bound(next))?;
+    let (a, b) = if lesser { (k, next) } else { (next, k) };
+    choice(alloc, below, Term::Bound(a), Term::Bound(b))
+}
+
+// The names of two values that a `let` binds.
+fn two_names(alloc: Global) -> Result<Names, NoMemory>
+    ensures { IfOk result (λ ns. ns ≡ t_and_u) }
+{
+    let mut names = Names::one(alloc, Name::of(alloc, b"t")?);
+    names.push(Name::of(alloc, b"u")?)?;
+    Ok(names)
+}
+
 // The lesser or the greater of two operands, which are bound by a `let`.
 fn bound_pair(alloc: Global, k: u32, lesser: bool, terms: Terms) -> Result<Term, NoMemory>
     requires bound { k + 1 < 2 ^ 32 }
     ensures { IfOk result (λ t. plain t ≡ binding t_and_u (trees_of (map plain terms.items)) (pair_body k lesser)) }
 {
-    let next = k + 1;
-    let below = apply_two(
-        alloc,
-        TermOp::BvBinary(Binary::Slt),
-        Term::Bound(k),
-        Term::Bound(next),
-    )?;
-    let (a, b) = if lesser { (k, next) } else { (next, k) };
-    let body = choice(alloc, below, Term::Bound(a), Term::Bound(b))?;
-    let mut names = Names::one(alloc, Name::of(alloc, b"t")?);
-    names.push(Name::of(alloc, b"u")?)?;
-    let held = Box::new(alloc, body)?;
-    Ok(Term::Let(names, terms, held))
+    let body = pair_body(alloc, k, lesser)?;
+    let names = two_names(alloc)?;
+    bound_in(alloc, names, terms, body)
 }
 
 // A word of one bit as a truth value.
@@ -185,17 +196,25 @@ fn bit_of(alloc: Global, a: Term) -> Result<Term, NoMemory>
     choice(alloc, a, word_term(1, 1), word_term(1, 0))
 }
 
+// The absolute value of the bound name k, an integer.
+fn magnitude_term(alloc: Global, width: u32, k: u32) -> Result<Term, NoMemory>
+    requires some { 1 ≤ width }
+    requires low { width ≤ 64 }
+    ensures { IfOk result (λ t. plain t ≡ magnitude_term width k) }
+{
+    let slt = TermOp::BvBinary(Binary::Slt);
+    let below = apply_two(alloc, slt, Term::Bound(k), integer_term(width, 0))?;
+    let opposite = apply_one(alloc, TermOp::BvUnary(Unary::Neg), Term::Bound(k))?;
+    choice(alloc, below, opposite, Term::Bound(k))
+}
+
 // The absolute value of an integer.
 fn magnitude(alloc: Global, width: u32, k: u32, a: Term) -> Result<Term, NoMemory>
     requires some { 1 ≤ width }
     requires low { width ≤ 64 }
     ensures { IfOk result (λ t. plain t ≡ binding t_alone (one (plain a)) (magnitude_term width k)) }
 {
-    let zero = integer_term(width, 0);
-    let slt = TermOp::BvBinary(Binary::Slt);
-    let below = apply_two(alloc, slt, Term::Bound(k), zero)?;
-    let opposite = apply_one(alloc, TermOp::BvUnary(Unary::Neg), Term::Bound(k))?;
-    let body = choice(alloc, below, opposite, Term::Bound(k))?;
+    let body = magnitude_term(alloc, width, k)?;
     bound_to(alloc, a, body)
 }
 

@@ -1,7 +1,7 @@
 // The parts of chains and cases, and the terms that combine them.
-ghost use Rattle.std.specs.Prelude.{◌≡◌, IfOk, map};
+ghost use Rattle.std.specs.Prelude.{◌≡◌, ◌∷◌, [], IfOk, map};
 ghost use Rattle.word_core.specs.Words.{IsWord};
-ghost use Rattle.moxi_terms.specs.Tree.{binding};
+ghost use Rattle.moxi_terms.specs.Tree.{binding, trees_of};
 ghost use Rattle.moxi_terms.specs.View.{plain};
 ghost use Rattle.smv_flat.specs.FlatView.{plain_flat};
 ghost use Rattle.smv_script.specs.Operators.{front_width, t_alone, infix_term, word_term};
@@ -12,7 +12,7 @@ ghost use Rattle.moxi_terms.specs.Applications.{one};
 
 use crate::constants::word_term;
 use crate::operators::{choice, implication, infix};
-use moxi_terms::Term;
+use moxi_terms::{Term, Terms};
 use smv_flat::{FlatExpr, FlatShape};
 use smv_intervals::Ty;
 use smv_text::Infix;
@@ -104,15 +104,42 @@ pub(crate) fn front_width(op: Infix, before: u32, operand: u32) -> u32
     }
 }
 
+/// Returns the term of a `let` that binds these values to these names in `body`.
+pub(crate) fn bound_in(
+    alloc: Global,
+    names: Names,
+    values: Terms,
+    body: Term,
+) -> Result<Term, NoMemory>
+    ensures { IfOk result (λ t. plain t ≡ binding names (trees_of (map plain values.items)) (plain body)) }
+{
+    let held = Box::new(alloc, body)?;
+    Ok(Term::Let(names, values, held))
+}
+
+// A list of one term.
+fn alone(alloc: Global, a: Term) -> Result<Terms, NoMemory>
+    ensures { IfOk result (λ ts. ts.items ≡ a ∷ []) }
+{
+    let mut terms = Vec::with_capacity(alloc, 1)?;
+    terms.push_reserved(a);
+    Ok(terms)
+}
+
+// The name of the only value that a `let` binds.
+fn only_name(alloc: Global) -> Result<Names, NoMemory>
+    ensures { IfOk result (λ ns. ns ≡ t_alone) }
+{
+    Ok(Names::one(alloc, Name::of(alloc, b"t")?))
+}
+
 /// Returns the term of a `let` that binds `value` in `body`.
 pub(crate) fn bound_to(alloc: Global, value: Term, body: Term) -> Result<Term, NoMemory>
     ensures { IfOk result (λ t. plain t ≡ binding t_alone (one (plain value)) (plain body)) }
 {
-    let names = Names::one(alloc, Name::of(alloc, b"t")?);
-    let mut values = Vec::with_capacity(alloc, 1)?;
-    values.push(value)?;
-    let held = Box::new(alloc, body)?;
-    Ok(Term::Let(names, values, held))
+    let values = alone(alloc, value)?;
+    let names = only_name(alloc)?;
+    bound_in(alloc, names, values, body)
 }
 
 fn shifted(
