@@ -11,7 +11,7 @@ ghost use Rattle.smv_intervals.specs.View.{seen};
 ghost use Rattle.smv_items.specs.Counts.{AreFew};
 ghost use Rattle.smv_items.specs.FlatItems.{content_type, flat_item_of, origins_of, path_of, symbols_of};
 ghost use Rattle.smv_items.specs.FlatItemView.{item_plain};
-ghost use Rattle.smv_items.specs.FlatOrigins.{origin_plain};
+ghost use Rattle.smv_items.specs.FlatOrigins.{AreNumbers, origin_plain};
 ghost use Rattle.smv_items.specs.laws.Declarations.{DiffersInside};
 ghost use Rattle.smv_flat.specs.FlatForms.{forms_of};
 ghost use Rattle.smv_flat.specs.FlatFormulas.{form_plain};
@@ -25,8 +25,11 @@ use name_maps::NameSet;
 use smv_flat::FlatFormula;
 use smv_instances::Table;
 use smv_intervals::Ty;
-use smv_items::{FlatItem, Origins, Symbols, dotted_paths, numbers_of, origins_in, symbols_in};
-use smv_model_types::types_checked;
+use smv_items::{
+    FlatItem, ItemNumbers, Origin, Origins, Symbols, dotted_paths, numbers_of, origins_in,
+    symbols_in,
+};
+use smv_model_types::{Built, types_checked};
 use smv_names::{NamesEnd, NumberedAssignment, paths_checked};
 use smv_references::Body;
 use std::alloc::Global;
@@ -70,6 +73,43 @@ struct Formed {
 // The types of most models tell that each path has a target. Only where they don't, or refuse, are the paths checked for
 // themselves, since their refusal comes first.
 #[tactic(auto, using(crate::specs::laws::Composing::ends, crate::specs::laws::Composing::ends_behind))]
+fn checked_in<'a, 'n>(
+    alloc: Global,
+    table: &Table<'a>,
+    bodies: &[Body<'a>],
+    order: &List<usize>,
+    origins: &[Origin<'a>],
+    numbers: &ItemNumbers<'a, 'n>,
+    symbols: &Symbols,
+) -> Result<Built, NamesEnd>
+    requires bodies { map body_plain bodies.now ≡ placed_bodies (map instance_plain table.now) }
+    requires order { IsBodyOrder (map instance_plain table.now) order.now }
+    requires numbers { AreNumbers (map instance_plain table.now) (origins_of (map instance_plain table.now)) numbers.now }
+    requires symbols { symbols.now ≡ symbols_of (map instance_plain table.now) }
+    requires differ { AllByRecursion DiffersInside (map instance_plain table.now) }
+    requires few { AreFew (map instance_plain table.now) }
+    ensures found { IfOk result (λ b. first_failing (path_checks_of (map instance_plain table.now)) ≡ None) }
+    ensures typed { IfOk result (λ b. first_failing (type_checks_of (map instance_plain table.now)) ≡ None) }
+    ensures refused { IfErr result (λ e. IsBad e (first_failing (path_checks_of (map instance_plain table.now) ++ type_checks_of (map instance_plain table.now)))) }
+    ensures types { IfOk result (λ b. map (option_map seen) b.types.items ≡ map (λ m. content_type (map instance_plain table.now) m.content) (origins_of (map instance_plain table.now))) }
+    ensures forms { IfOk result (λ b. map form_plain b.forms.items ≡ forms_of (map instance_plain table.now)) }
+    ensures assigned { IfOk result (λ b. first_failing (numbered_checks [] b.assigned.items) ≡ first_failing (assignment_checks (found_in (map instance_plain table.now)) (map instance_plain table.now))) }
+{
+    let built = match types_checked(alloc, table, bodies, order, origins, numbers, symbols) {
+        Ok(built) => built,
+        Err(end) => {
+            paths_checked(alloc, table)?;
+            return Err(end);
+        }
+    };
+    if !built.all_found {
+        paths_checked(alloc, table)?;
+    }
+    Ok(built)
+}
+
+// Checks the types and the paths, and makes the formulas and the order over the numbers of items.
+#[tactic(auto, using(crate::specs::laws::Composing::ends, crate::specs::laws::Composing::ends_behind))]
 fn formed_in<'a>(
     alloc: Global,
     table: &Table<'a>,
@@ -94,7 +134,7 @@ fn formed_in<'a>(
 {
     let origins = sources.origins.as_slice();
     let numbers = numbers_of(alloc, origins, sources.paths.as_slice())?;
-    let built = match types_checked(
+    let built = checked_in(
         alloc,
         table,
         bodies,
@@ -102,16 +142,7 @@ fn formed_in<'a>(
         origins,
         &numbers,
         &sources.symbols,
-    ) {
-        Ok(built) => built,
-        Err(end) => {
-            paths_checked(alloc, table)?;
-            return Err(end);
-        }
-    };
-    if !built.all_found {
-        paths_checked(alloc, table)?;
-    }
+    )?;
     let order = item_order(alloc, bodies, order.as_slice(), &numbers.bodies)?;
     Ok(Formed {
         formulas: built.forms,

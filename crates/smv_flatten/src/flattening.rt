@@ -122,8 +122,60 @@ pub fn flatten(alloc: Global, source: &Source, needed: u32) -> Result<Flat, Flat
     ensures invariants { IfOk result (λ f. f.invariants ≡ length (invariants_in (instances_of (plain_source source.now)))) }
 {
     let model = sized(alloc, source)?;
+    flat_in(alloc, source, &model, needed)
+}
+
+// The flat form of a model that passes the first three phases.
+#[tactic(auto, using(crate::specs::laws::Composing::ends, crate::specs::laws::Composing::ends_behind, crate::specs::laws::Composing::both_pass))]
+fn flat_in<'a>(
+    alloc: Global,
+    source: &Source,
+    model: &SizedModel<'a>,
+    needed: u32,
+) -> Result<Flat, FlatEnd>
+    requires read { IsRead (plain_source source.now) }
+    requires checks { first_failing (early_checks (plain_source source.now)) ≡ None }
+    requires table { map instance_plain model.now.table ≡ instances_of (plain_source source.now) }
+    requires weight { model.now.weight ≡ sum_by (λ at. at.module.tokens) (map instance_plain model.now.table) }
+    requires differ { AllByRecursion DiffersInside (map instance_plain model.now.table) }
+    requires few { AreFew (map instance_plain model.now.table) }
+    ensures checks { Decides result (checks_of (plain_source source.now) needed) }
+    ensures passes { IfOk result (λ f. IsAccepted (plain_source source.now) needed) }
+    ensures form { IfOk result (λ f. flat_plain f ≡ flat_smv (plain_source source.now)) }
+    ensures width { IfOk result (λ f. f.width ≡ width_of (flat_smv (plain_source source.now))) }
+    ensures weight { IfOk result (λ f. f.weight ≡ weight_of (plain_source source.now)) }
+    ensures invariants { IfOk result (λ f. f.invariants ≡ length (invariants_in (instances_of (plain_source source.now)))) }
+{
+    let ordered = ordered_in(alloc, &model.table)?;
+    flat_ordered(alloc, source, model, &ordered, needed)
+}
+
+// The flat form of a model that passes the phase of cycles, too.
+#[tactic(auto, using(crate::specs::laws::Composing::ends, crate::specs::laws::Composing::ends_behind, crate::specs::laws::Composing::both_pass))]
+fn flat_ordered<'a>(
+    alloc: Global,
+    source: &Source,
+    model: &SizedModel<'a>,
+    ordered: &Ordered<'a>,
+    needed: u32,
+) -> Result<Flat, FlatEnd>
+    requires read { IsRead (plain_source source.now) }
+    requires checks { first_failing (early_checks (plain_source source.now)) ≡ None }
+    requires table { map instance_plain model.now.table ≡ instances_of (plain_source source.now) }
+    requires weight { model.now.weight ≡ sum_by (λ at. at.module.tokens) (map instance_plain model.now.table) }
+    requires differ { AllByRecursion DiffersInside (map instance_plain model.now.table) }
+    requires few { AreFew (map instance_plain model.now.table) }
+    requires cycles { first_failing (cycle_checks_of (map instance_plain model.now.table)) ≡ None }
+    requires bodies { map body_plain ordered.now.bodies.items ≡ placed_bodies (map instance_plain model.now.table) }
+    requires order { IsBodyOrder (map instance_plain model.now.table) ordered.now.order }
+    ensures checks { Decides result (checks_of (plain_source source.now) needed) }
+    ensures passes { IfOk result (λ f. IsAccepted (plain_source source.now) needed) }
+    ensures form { IfOk result (λ f. flat_plain f ≡ flat_smv (plain_source source.now)) }
+    ensures width { IfOk result (λ f. f.width ≡ width_of (flat_smv (plain_source source.now))) }
+    ensures weight { IfOk result (λ f. f.weight ≡ weight_of (plain_source source.now)) }
+    ensures invariants { IfOk result (λ f. f.invariants ≡ length (invariants_in (instances_of (plain_source source.now)))) }
+{
     let table = &model.table;
-    let ordered = ordered_in(alloc, table)?;
     let contents = contents_of(alloc, table, ordered.bodies.as_slice(), &ordered.order)?;
     assignments_checked(alloc, &contents.assigned)?;
     let invariants = invariants_checked(table, source.end, needed)?;
