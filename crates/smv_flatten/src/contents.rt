@@ -108,6 +108,41 @@ fn checked_in<'a, 'n>(
     Ok(built)
 }
 
+// Makes the formulas and the order over these numbers of items.
+#[tactic(auto, using(crate::specs::laws::Composing::ends, crate::specs::laws::Composing::ends_behind))]
+fn formed_on<'a, 'n>(
+    alloc: Global,
+    table: &Table<'a>,
+    bodies: &[Body<'a>],
+    order: &List<usize>,
+    origins: &[Origin<'a>],
+    numbers: &ItemNumbers<'a, 'n>,
+    symbols: &Symbols,
+) -> Result<Formed, NamesEnd>
+    requires bodies { map body_plain bodies.now ≡ placed_bodies (map instance_plain table.now) }
+    requires order { IsBodyOrder (map instance_plain table.now) order.now }
+    requires numbers { AreNumbers (map instance_plain table.now) (origins_of (map instance_plain table.now)) numbers.now }
+    requires symbols { symbols.now ≡ symbols_of (map instance_plain table.now) }
+    requires differ { AllByRecursion DiffersInside (map instance_plain table.now) }
+    requires few { AreFew (map instance_plain table.now) }
+    ensures found { IfOk result (λ f. first_failing (path_checks_of (map instance_plain table.now)) ≡ None) }
+    ensures typed { IfOk result (λ f. first_failing (type_checks_of (map instance_plain table.now)) ≡ None) }
+    ensures refused { IfErr result (λ e. IsBad e (first_failing (path_checks_of (map instance_plain table.now) ++ type_checks_of (map instance_plain table.now)))) }
+    ensures types { IfOk result (λ f. map (option_map seen) f.types.items ≡ map (λ m. content_type (map instance_plain table.now) m.content) (origins_of (map instance_plain table.now))) }
+    ensures formulas { IfOk result (λ f. map form_plain f.formulas.items ≡ forms_of (map instance_plain table.now)) }
+    ensures assigned { IfOk result (λ f. first_failing (numbered_checks [] f.assigned.items) ≡ first_failing (assignment_checks (found_in (map instance_plain table.now)) (map instance_plain table.now))) }
+    ensures order { IfOk result (λ f. f.order ≡ item_order (map instance_plain table.now) order.now) }
+{
+    let built = checked_in(alloc, table, bodies, order, origins, numbers, symbols)?;
+    let order = item_order(alloc, bodies, order.as_slice(), &numbers.bodies)?;
+    Ok(Formed {
+        formulas: built.forms,
+        assigned: built.assigned,
+        types: built.types,
+        order,
+    })
+}
+
 // Checks the types and the paths, and makes the formulas and the order over the numbers of items.
 #[tactic(auto, using(crate::specs::laws::Composing::ends, crate::specs::laws::Composing::ends_behind))]
 fn formed_in<'a>(
@@ -134,7 +169,7 @@ fn formed_in<'a>(
 {
     let origins = sources.origins.as_slice();
     let numbers = numbers_of(alloc, origins, sources.paths.as_slice())?;
-    let built = checked_in(
+    formed_on(
         alloc,
         table,
         bodies,
@@ -142,14 +177,7 @@ fn formed_in<'a>(
         origins,
         &numbers,
         &sources.symbols,
-    )?;
-    let order = item_order(alloc, bodies, order.as_slice(), &numbers.bodies)?;
-    Ok(Formed {
-        formulas: built.forms,
-        assigned: built.assigned,
-        types: built.types,
-        order,
-    })
+    )
 }
 
 /// The items, symbols and formulas of a model, the assignments among the formulas, and the order of the items with
