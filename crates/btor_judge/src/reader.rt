@@ -1,17 +1,18 @@
 // The progress of the reading of a witness, and the verdict so far.
-ghost use Rattle.std.specs.Prelude.{◌≡◌, ◌⊎◌, ◌+◌, ◌<◌, ◌^◌, ◌↔◌, ℕ, true, false, List, length, IfOk, IfSome, IfNone, IsTrue};
+ghost use Rattle.std.specs.Prelude.{◌≡◌, ◌⊎◌, ◌+◌, ◌<◌, ◌^◌, ◌↔◌, ℕ, true, false, List, [], length, IfOk, IfSome, IfNone, IsTrue};
 ghost use Rattle.std.specs.List.{AllByRecursion};
 ghost use Rattle.btor_tree.specs.declared.lines.Line.{Line as TreeLine};
-ghost use Rattle.btor_tree.specs.Fits.{is_state};
+ghost use Rattle.btor_tree.specs.Fits.{is_state, is_input};
 ghost use Rattle.btor_frames.specs.Held.{FramesFit};
 ghost use Rattle.btor_witness.specs.declared.phase.Phase.TheVariants as phase;
 ghost use Rattle.btor_witness.specs.declared.witness.Frame.{Frame};
 ghost use Rattle.btor_witness.specs.Bytes.{line_parts};
-ghost use Rattle.btor_witness.specs.Sizes.{sizes_of, is_within};
+ghost use Rattle.btor_witness.specs.Sizes.{sizes_of, is_within, widths_of};
 ghost use Rattle.btor_witness.specs.declared.shape.Shape.TheVariants as line;
 ghost use Rattle.btor_witness.specs.Reading.{Reading, begin, frames_of, new_frame, step};
 ghost use Rattle.btor_witness.specs.Texts.{next_of};
 ghost use Rattle.btor_witness.specs.Room.{IsWordThere, places_of};
+ghost use Rattle.btor_judge.specs.Kept.{Holds};
 ghost use Rattle.btor_judge.specs.Scanning.{line_of};
 ghost use Rattle.btor_judge.specs.Standing.{ReaderFits, IsAt, RepresentsIn, IsSomewhere, HasFrame, AgreesAt, JudgesHeld, HeldFails, HeldPasses, HasClosed, Does, IsStageOf};
 
@@ -57,24 +58,65 @@ pub struct Reader {
     places: List<u32>,
 }
 
+// The part for the states, with no statement yet.
+fn state_part(alloc: Global, nodes: &Nodes) -> Result<Part, NoMemory>
+    ensures widths { IfOk result (λ part. part.widths ≡ widths_of is_state nodes.now) }
+    ensures none { IfOk result (λ part. Holds part []) }
+{
+    nodes.are_well_formed();
+    let widths = state_widths(alloc, nodes)?;
+    Part::new(alloc, widths)
+}
+
+// The part for the inputs, with no statement yet.
+fn input_part(alloc: Global, nodes: &Nodes) -> Result<Part, NoMemory>
+    ensures widths { IfOk result (λ part. part.widths ≡ widths_of is_input nodes.now) }
+    ensures none { IfOk result (λ part. Holds part []) }
+{
+    nodes.are_well_formed();
+    let widths = input_widths(alloc, nodes)?;
+    Part::new(alloc, widths)
+}
+
+// Both parts.
+fn parts_of(alloc: Global, nodes: &Nodes) -> Result<(Part, Part), NoMemory>
+    ensures states { IfOk result (λ both. both.0.widths ≡ widths_of is_state nodes.now) }
+    ensures inputs { IfOk result (λ both. both.1.widths ≡ widths_of is_input nodes.now) }
+    ensures none { IfOk result (λ both. Holds both.0 [] × Holds both.1 []) }
+{
+    let states = state_part(alloc, nodes)?;
+    let inputs = input_part(alloc, nodes)?;
+    Ok((states, inputs))
+}
+
+// The frames before the first, and the indices of the states.
+fn first_frames(alloc: Global, nodes: &Nodes) -> Result<(Frames, List<u32>), NoMemory>
+    ensures fits { IfOk result (λ both. FramesFit nodes.now both.0) }
+    ensures none { IfOk result (λ both. both.0.begun ≡ false) }
+    ensures places { IfOk result (λ both. both.1 ≡ places_of is_state nodes.now) }
+{
+    let frames = Frames::new(alloc, nodes)?;
+    let places = state_places(alloc, nodes)?;
+    Ok((frames, places))
+}
+
 impl Reader {
     /// Returns a reader before the first line.
     pub fn new(alloc: Global, nodes: &Nodes) -> Result<Reader, NoMemory>
         ensures { IfOk result (λ reader. IsAt nodes.now reader begin) }
     {
-        nodes.are_well_formed();
-        let states = state_widths(alloc, nodes)?;
-        let inputs = input_widths(alloc, nodes)?;
+        let (states, inputs) = parts_of(alloc, nodes)?;
+        let (frames, places) = first_frames(alloc, nodes)?;
         Ok(Reader {
             bads: nodes.bads(),
             phase: Phase::Start,
             bad: 0,
             count: 0,
             verdict: Verdict::Yes,
-            states: Part::new(alloc, states)?,
-            inputs: Part::new(alloc, inputs)?,
-            frames: Frames::new(alloc, nodes)?,
-            places: state_places(alloc, nodes)?,
+            states,
+            inputs,
+            frames,
+            places,
         })
     }
 
