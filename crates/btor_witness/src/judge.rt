@@ -1,5 +1,5 @@
 // The judge.
-ghost use Rattle.std.specs.Prelude.{◌≡◌, ◌<◌, true, IfOk, IfSome, IfNone};
+ghost use Rattle.std.specs.Prelude.{◌≡◌, ◌<◌, false, true, IfOk, IfSome, IfNone};
 ghost use Rattle.text_core.specs.declared.verdict.Verdict.TheVariants.{No};
 ghost use Rattle.btor_tree.specs.Fits as fits;
 ghost use Rattle.btor_witness.specs.Sizes.{sizes_of, widths_of};
@@ -25,11 +25,21 @@ pub fn judge_btor(alloc: Global, nodes: &Nodes, witness: &Witness) -> Result<Ver
     ensures { IfOk result (λ verdict. judged_btor nodes.now witness.now verdict) }
 {
     let mut room = Room::new(alloc, nodes)?;
+    judge_frames(&mut room, nodes, witness)
+}
+
+// Judges the frames of a witness, from the state before the first frame.
+fn judge_frames(room: &mut Room, nodes: &Nodes, witness: &Witness) -> Result<Verdict, NoMemory>
+    requires fits { RoomFits nodes.now room.old }
+    requires none { room.old.frames.begun ≡ false }
+    requires witness { IsWitness (sizes_of nodes.now) witness.now }
+    ensures { IfOk result (λ verdict. judged_btor nodes.now witness.now verdict) }
+{
     let frames = witness.frames.len();
     for step in 0..frames {
         let frame = witness.frames.at(step);
         room.step(nodes, frame);
-        let failure = failure(&room, nodes, frame, step + 1 == frames, witness.bad);
+        let failure = failure(room, nodes, frame, step + 1 == frames, witness.bad);
         if let Some(clause) = failure {
             return no(step, clause);
         }

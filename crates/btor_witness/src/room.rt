@@ -5,6 +5,7 @@ ghost use Rattle.word_core.specs.Words.{IsWord};
 ghost use Rattle.word_core.specs.declared.word.TheConstants.{WIDEST};
 ghost use Rattle.btor_tree.specs.Fits as fits;
 ghost use Rattle.btor_tree.specs.Frame.{ConstraintsHold, IsBad};
+ghost use Rattle.btor_frames.specs.Held.{FramesFit};
 ghost use Rattle.btor_frames.specs.Judged.{IsStatedFrame};
 ghost use Rattle.btor_witness.specs.Sizes.{widths_of};
 ghost use Rattle.btor_witness.specs.Printing.{IsBelow, IsPart};
@@ -17,6 +18,7 @@ use crate::witness::{Frame, Stateds};
 use btor_frames::{Frames, Words};
 use btor_tree::Nodes;
 use std::alloc::Global;
+use std::mem::drop;
 use text_core::{Clause, List, NoMemory};
 use word_core::Word;
 
@@ -32,20 +34,62 @@ pub struct Room {
     places: List<u32>,
 }
 
+// The buffer for the words of inputs.
+fn input_buffer(alloc: Global, nodes: &Nodes) -> Result<Words, NoMemory>
+    ensures { IfOk result (λ words. HoldsStated (widths_of fits.is_input nodes.now) [] words) }
+{
+    nodes.are_well_formed();
+    let widths = input_widths(alloc, nodes)?;
+    let words = zeros(alloc, &widths);
+    drop(widths);
+    words
+}
+
+// The buffer for the words of states.
+fn state_buffer(alloc: Global, nodes: &Nodes) -> Result<Words, NoMemory>
+    ensures { IfOk result (λ words. HoldsStated (widths_of fits.is_state nodes.now) [] words) }
+{
+    nodes.are_well_formed();
+    let widths = state_widths(alloc, nodes)?;
+    let words = zeros(alloc, &widths);
+    drop(widths);
+    words
+}
+
+// Both buffers.
+fn buffers(alloc: Global, nodes: &Nodes) -> Result<(Words, Words), NoMemory>
+    ensures inputs { IfOk result (λ p. HoldsStated (widths_of fits.is_input nodes.now) [] p.0) }
+    ensures free { IfOk result (λ p. HoldsStated (widths_of fits.is_state nodes.now) [] p.1) }
+{
+    let inputs = input_buffer(alloc, nodes)?;
+    let free = state_buffer(alloc, nodes)?;
+    Ok((inputs, free))
+}
+
+// The frames before the first, and the indices of the states.
+fn first_frames(alloc: Global, nodes: &Nodes) -> Result<(Frames, List<u32>), NoMemory>
+    ensures fits { IfOk result (λ both. FramesFit nodes.now both.0) }
+    ensures none { IfOk result (λ both. both.0.begun ≡ false) }
+    ensures places { IfOk result (λ both. both.1 ≡ places_of fits.is_state nodes.now) }
+{
+    let frames = Frames::new(alloc, nodes)?;
+    let places = state_places(alloc, nodes)?;
+    Ok((frames, places))
+}
+
 impl Room {
     /// Returns the state before the first frame.
     pub fn new(alloc: Global, nodes: &Nodes) -> Result<Room, NoMemory>
         ensures fits { IfOk result (λ room. RoomFits nodes.now room) }
         ensures none { IfOk result (λ room. room.frames.begun ≡ false) }
     {
-        nodes.are_well_formed();
-        let inputs = input_widths(alloc, nodes)?;
-        let states = state_widths(alloc, nodes)?;
+        let (inputs, free) = buffers(alloc, nodes)?;
+        let (frames, places) = first_frames(alloc, nodes)?;
         Ok(Room {
-            frames: Frames::new(alloc, nodes)?,
-            inputs: zeros(alloc, &inputs)?,
-            free: zeros(alloc, &states)?,
-            places: state_places(alloc, nodes)?,
+            frames,
+            inputs,
+            free,
+            places,
         })
     }
 

@@ -1,9 +1,9 @@
 use Rattle.std.proofs.Common.{◌<◌, ◌+◌, length, eqb, sym, ap, arith}
 use Rattle.btor_witness.proofs.Judgement.{so_far, more_far, fails_here, if_no}
-use Rattle.btor_witness.proofs.judge.judge_btor.Goals as goal
+use Rattle.btor_witness.proofs.judge.judge_frames.Goals as goal
 
 pub loop-step-init : goal.loop-step-init
-loop-step-init c = so_far c.args.nodes.now c.args.witness.now c.in_ok-room.room c.in_ok-room.ensures.fits c.in_ok-room.ensures.none
+loop-step-init c = so_far c.args.nodes.now c.args.witness.now c.args.room.now c.requires.fits c.requires.none
 
 pub returns-in-Some : goal.returns-in-Some
 returns-in-Some c =
