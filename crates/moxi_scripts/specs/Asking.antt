@@ -1,18 +1,12 @@
 -- What a query asks of the values that a check's variables have at a step, apart from what the system asks of them (MoXI, SPIN 2024).
-use Rattle.std.specs.Prelude.{◌≡◌, ℕ, zero, suc, ◌<◌, ◌≤◌, Bool, false, None, List, [], ◌∷◌, length, slice_index_or}
-use Rattle.std.specs.List.{AllByRecursion}
+use Rattle.std.specs.Prelude.{◌≡◌, ℕ, zero, suc, ◌≤◌, Bool, None, List, [], ◌∷◌, slice_index_or}
 use Rattle.text_core.specs.declared.verdict.Clause.{Clause}
 use Rattle.text_core.specs.declared.verdict.Clause.TheVariants.{InitFails, TransFails, InvarFails, AssumptionFails, CurrentFails, NotBroken}
-use Rattle.moxi_terms.specs.declared.data.Sort.{Sort}
-use Rattle.moxi_terms.specs.declared.data.Sort.TheVariants.{Truth}
-use Rattle.moxi_terms.specs.Sorted.{HasSort}
-use Rattle.moxi_terms.specs.Tree.{Tree, sorts_of}
 use Rattle.moxi_terms.specs.Value.{Values}
 use Rattle.moxi_scripts.specs.declared.script.Query.{Query}
 use Rattle.moxi_scripts.specs.Behaviour.{Trace}
 use Rattle.moxi_scripts.specs.Meeting.{Hiddens, all_hold, assumptions_hold, currents_hold, ends_reached, first_failing, is_reached_before}
-use Rattle.moxi_scripts.specs.Script.{PlainFormula, PlainScript}
-use Rattle.moxi_scripts.specs.Valid.{check_variables}
+use Rattle.moxi_scripts.specs.Script.{PlainScript}
 
 -- what stands where no query is
 abbrev pub no_query : Query
@@ -32,31 +26,7 @@ query_tests s q last before (suc j) now = (assumptions_hold s q now, AssumptionF
 abbrev pub NothingFails : PlainScript → Query → ℕ → Trace → Type 0
 NothingFails s q k trace = (j : ℕ) → j ≤ k → first_failing (query_tests s q k (is_reached_before s trace j) j (trace j)) ≡ None
 
--- the mark of this number; beyond the marks there is none
-abbrev pub is_marked : List Bool → ℕ → Bool
-is_marked marks r = slice_index_or marks r false
-
 -- the tests of a step by the formulas of the system and its subsystems
 abbrev pub system_tests : PlainScript → Trace → Hiddens → ℕ → List (Bool × Clause)
 system_tests s trace hs zero = (all_hold s (λ x. x.init) 0 0 trace hs, InitFails) ∷ (all_hold s (λ x. x.inv) 0 0 trace hs, InvarFails) ∷ []
 system_tests s trace hs (suc j) = (all_hold s (λ x. x.trans) j (suc j) trace hs, TransFails) ∷ (all_hold s (λ x. x.inv) (suc j) (suc j) trace hs, InvarFails) ∷ []
-
--- the sorts of the check's variables
-abbrev pub check_sorts : PlainScript → List Sort
-check_sorts s = sorts_of (check_variables s.check)
-
--- a term of truth values over the check's variables
-abbrev pub IsTruth : PlainScript → Tree → Type 0
-IsTruth s t = HasSort s.scope.enumerations s.scope.functions (check_sorts s) [] t Truth
-
-abbrev pub AreTruths : PlainScript → List PlainFormula → Type 0
-AreTruths s fs = AllByRecursion (λ (f : PlainFormula). IsTruth s f.term) fs
-
--- the formulas that the query names are there, and those of the check are of truth values
-pub record CanAsk (s : PlainScript) (q : Query) : Type 0 where
-  pub assumptions_there : AllByRecursion (λ (a : ℕ). a < length s.check.assumptions) q.assumptions
-  pub currents_there : AllByRecursion (λ (c : ℕ). c < length s.check.currents) q.currents
-  pub reachables_there : AllByRecursion (λ (r : ℕ). r < length s.check.reachables) q.reachables
-  pub assumptions : AreTruths s s.check.assumptions
-  pub currents : AreTruths s s.check.currents
-  pub reachables : AreTruths s s.check.reachables

@@ -12,10 +12,7 @@ mod script;
 mod trace;
 mod whole_laws;
 
-pub use asking::{
-    queries_are_met_where_nothing_fails, queries_can_be_asked, query_failing,
-    steps_are_tested_by_system_and_query,
-};
+pub use asking::{queries_are_met_where_nothing_fails, steps_are_tested_by_system_and_query};
 pub use laws::{failures_have_kinds, least_is_least, one_script};
 pub use making::{numbered, query_of, variables_again};
 pub use parts::{
