@@ -1,22 +1,20 @@
 // Laws about printed terms that are read again.
 ghost use Rattle.std.specs.Prelude.{◌≡◌, [], List, ℕ, Ok, false, true};
 ghost use Rattle.text_core.specs.declared.place.Place.{Place};
-ghost use Rattle.moxi_sexpr.specs.Printing.{IsPrintable};
 ghost use Rattle.moxi_sexpr.specs.Tree.{Tree as Form};
 ghost use Rattle.moxi_terms.specs.declared.data.Sort.{Sort};
 ghost use Rattle.moxi_term_reading.specs.declared.locals.Local.{Local};
-ghost use Rattle.moxi_terms.specs.Names.{is_term_name, may_be_enumeration, no_scope, with_enumeration, with_function, with_sort};
+ghost use Rattle.moxi_terms.specs.Names.{is_term_name, may_be_enumeration, with_enumeration, with_function, with_sort};
 ghost use Rattle.moxi_term_reading.specs.Reading.{Context, names_of, read};
 ghost use Rattle.moxi_term_reading.specs.SortReading.{sort_reading};
 ghost use Rattle.moxi_terms.specs.Sorts.{IsSort};
 ghost use Rattle.moxi_terms.specs.Tree.{PlainFunction, Tree};
 ghost use Rattle.moxi_terms.specs.View.{ScopeState};
 ghost use Rattle.moxi_term_reading.specs.WellSorted.{HaveKnownSorts};
-ghost use Rattle.moxi_term_print.specs.Shown.{CanBeShown, Shows};
+ghost use Rattle.moxi_term_print.specs.Shown.{Shows};
 ghost use Rattle.moxi_term_print.specs.Terms.{shown_sort, shown_term};
 ghost use Rattle.moxi_term_print.specs.WellScoped.{IsWellScoped};
 ghost use Rattle.moxi_term_print.specs.StandingGrows.{Grows, IsReadAgain, in_scope, sorts_first};
-ghost use Rattle.moxi_term_print.specs.StandingNames.{AreSpellable, IsSpellable, IsSpellableScope, NamesAreSpellable, TermCanBeShown};
 ghost use Rattle.moxi_term_print.specs.WellScopedReads.{HasSortNames, IsWellScopedReading, IsKnownSort, whole};
 
 /// Proves that a form that shows a term standing in its context parses to this term (SMT-LIB 2.6, section 3.6).
@@ -68,37 +66,4 @@ pub fn scopes_grow()
     ensures function { (s : ScopeState) (f : PlainFunction) → is_term_name s f.name ≡ false → Grows s (with_function s f) }
     ensures sorts_first { (s t : ScopeState) → Grows s t → Grows s (sorts_first s t) }
     ensures one_function { (s : ScopeState) (f : PlainFunction) (t : ScopeState) → is_term_name s f.name ≡ false → Grows (with_function s f) t → Grows (sorts_first s t) (sorts_first (with_function s f) t) }
-{}
-
-/// Proves that the term of a printable form binds names that can be spelled (SMT-LIB 2.6, section 3.1).
-pub fn read_names_are_spellable()
-    ensures { (c : Context) (bounds : List Local) (f : Form) → IsPrintable f → NamesAreSpellable (read c bounds f).term }
-{}
-
-/// Proves that a term that is in its context, and a sort whose name denotes it, can be shown.
-///
-/// Their names must be ones that can be spelled.
-pub fn well_scoped_terms_can_be_shown()
-    ensures terms { (c : Context) (bounds : List Local) (t : Tree) (s : Sort) → IsSpellableScope c.scope → AreSpellable (names_of c.variables) → AreSpellable (names_of bounds) → IsWellScoped c bounds t s
-        → NamesAreSpellable t → TermCanBeShown c bounds t }
-    ensures sorts { (s : ScopeState) (sort : Sort) → IsSpellableScope s → IsKnownSort s sort → CanBeShown (shown_sort s sort) }
-{}
-
-/// Proves that the enumerations of a scope have distinct names other than `Bool`.
-///
-/// This holds of the empty scope, and stays true with each declaration that may be added.
-pub fn sort_names_differ()
-    ensures none { HasSortNames no_scope }
-    ensures enumeration { (s : ScopeState) (name : List ℕ) (constants : List (List ℕ)) → may_be_enumeration s name constants ≡ true → HasSortNames s → HasSortNames (with_enumeration s name constants) }
-    ensures sort { (s : ScopeState) (name : List ℕ) (sort : Sort) → HasSortNames s → HasSortNames (with_sort s name sort) }
-    ensures function { (s : ScopeState) (f : PlainFunction) → HasSortNames s → HasSortNames (with_function s f) }
-{}
-
-/// Proves that the names of a scope can be spelled if those of all its declarations can.
-pub fn scopes_stay_spellable()
-    ensures none { IsSpellableScope no_scope }
-    ensures enumeration { (s : ScopeState) (name : List ℕ) (constants : List (List ℕ)) → IsSpellable name → AreSpellable constants → IsSpellableScope s → IsSpellableScope (with_enumeration s name constants) }
-    ensures sort { (s : ScopeState) (name : List ℕ) (sort : Sort) → IsSpellableScope s → IsSpellableScope (with_sort s name sort) }
-    ensures function { (s : ScopeState) (f : PlainFunction) → IsSpellable f.name → IsSpellableScope s → IsSpellableScope (with_function s f) }
-    ensures sorts_first { (s t : ScopeState) → IsSpellableScope s → IsSpellableScope t → IsSpellableScope (sorts_first s t) }
 {}
