@@ -11,10 +11,10 @@ use Rattle.moxi_terms.specs.Operators.{truth_of}
 use Rattle.moxi_terms.specs.Tree.{Tree}
 use Rattle.moxi_terms.specs.Value.{term_value}
 use Rattle.moxi_scripts.specs.declared.script.Query.{Query}
-use Rattle.moxi_scripts.specs.Script.{PlainScript, calls_in, system_at}
+use Rattle.moxi_scripts.specs.Script.{PlainScript, calls_in}
 use Rattle.moxi_scripts.specs.Asking.{query_tests, system_tests}
 use Rattle.moxi_scripts.specs.Behaviour.{Holds, Trace}
-use Rattle.moxi_scripts.specs.Meeting.{Hiddens, all_hold, each_holds, first_failing, is_reached_before, is_true, judged_from, judged_moxi, step_tests, verdict_or}
+use Rattle.moxi_scripts.specs.Meeting.{Hiddens, all_hold, first_failing, is_reached_before, is_true, judged_from, judged_moxi, step_tests, verdict_or}
 use Rattle.moxi_scripts.specs.Valid.{IsValid}
 use Rattle.moxi_scripts.specs.laws.WholeNames.{and_both}
 use Rattle.moxi_scripts.proofs.AskingLaws.{first_part}
@@ -146,11 +146,3 @@ module _ (s : PlainScript) (w : IsValid s) (q : Query) (k : ℕ) (trace : Trace)
 
 pub flat_traces_are_judged_law : FlatTracesAreJudged
 flat_traces_are_judged_law s w q k trace hs flat out suits = (judged_meets s w q k trace hs flat out suits, meets_judged s w q k trace hs flat out suits)
-
--- what is judged so has hidden values for all subsystems
-pub start_held : (s : PlainScript) (q : Query) (k : ℕ) (trace : Trace) (hs : Hiddens) → judged_moxi s q k trace hs ≡ Yes
-    → each_holds s (λ x. x.init) 0 0 (system_at s.systems s.check.system).subsystems (trace 0) (trace 0) hs ≡ true
-start_held s q k trace hs h =
-    let first = (verdict_yes 0 (first_failing (step_tests s q k trace hs 0)) (judged_from s q k trace hs 1 k) h).0 in
-    (and_parts (is_true s (trace 0) (trace 0) (system_at s.systems s.check.system).init)
-    (each_holds s (λ x. x.init) 0 0 (system_at s.systems s.check.system).subsystems (trace 0) (trace 0) hs) (passed _ _ _ first).0).1

@@ -1,5 +1,3 @@
-pub mod Measured
-pub mod Unfolding
 pub mod Renumbered
 pub mod Values
 pub mod Nesting
@@ -14,6 +12,5 @@ pub mod SortedSystem
 pub mod Small
 pub mod Enough
 pub mod Alike
-pub mod WrittenOut
 pub mod Single
 pub mod Sizes

@@ -61,14 +61,6 @@ FlatSystemsAreSorted = (s : PlainScript) → IsValid s → IsSortedFlat (flat_of
 abbrev pub FlatSystemsAreSmall : Type 0
 FlatSystemsAreSmall = (s : PlainScript) → IsValid s → length (flat_of s).variables + length (flat_of s).parts ≤ script_size s
 
--- what the judge says Yes of is written out by some flat trace
-pub record IsWrittenOut (s : PlainScript) (k : ℕ) (trace : Trace) (hs : Hiddens) : Type 0 where
-  pub flat : Trace
-  pub writes : WritesOut s k trace hs flat
-
-abbrev pub JudgedTracesAreWrittenOut : Type 0
-JudgedTracesAreWrittenOut = (s : PlainScript) → IsValid s → (q : Query) (k : ℕ) (trace : Trace) (hs : Hiddens) → judged_moxi s q k trace hs ≡ Yes → IsWrittenOut s k trace hs
-
 abbrev pub own_part : PlainSystem → PlainPart
 own_part x = record { init = x.init; trans = x.trans; inv = x.inv }
 

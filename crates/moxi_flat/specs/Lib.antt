@@ -1,6 +1,5 @@
 pub mod Terms
 pub mod Systems
-pub mod SizeLaws
 pub mod Renumbering
 pub mod FlatSystem
 pub mod Limits

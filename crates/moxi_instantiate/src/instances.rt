@@ -12,9 +12,6 @@ ghost use Rattle.moxi_instantiate.specs.PlainParts.{plain_part};
 
 use crate::measures::{script_is_ranked, script_is_valid};
 use crate::parts::{Parts, part_of, places_inside};
-use moxi_flat::{
-    flat_systems_are_small, locals_are_counted, renumbers_consistently, systems_are_over_variables,
-};
 use moxi_scripts::{Script, Subsystem, System, Systems};
 use std::alloc::Global;
 use text_core::{List, NoMemory};
@@ -79,7 +76,6 @@ fn add_inside(
     ensures next { IfOk result (λ next. next ≡ fresh + count_inside (map plain_system systems.now) subsystem.now) }
     ensures parts { OnOk result (map plain_part parts.new ≡ map plain_part parts.old ++ parts_inside (map plain_system systems.now) (number_in places.now) fresh subsystem.now) }
 {
-    renumbers_consistently();
     let system = systems.at(subsystem.system as usize);
     let locals = system.locals.len();
     let inside = places_inside(alloc, places, &subsystem.actuals, fresh, locals)?;
@@ -98,9 +94,6 @@ fn script_is_over_variables(script: &Script)
     ensures room { length (check_variables (plain_script script.now).check) + count_upto (plain_script script.now).systems (length (plain_script script.now).systems) script.now.check.system < 2 ^ 32 }
 {
     script_is_valid(script);
-    systems_are_over_variables();
-    locals_are_counted();
-    flat_systems_are_small();
 }
 
 // The parts of the flat system of a script that is not too large.
@@ -110,7 +103,6 @@ pub(crate) fn flat_parts(alloc: Global, script: &Script) -> Result<Parts, NoMemo
 {
     script_is_ranked(script);
     script_is_over_variables(script);
-    renumbers_consistently();
     let check = &script.check;
     let count = check.inputs.len() + check.outputs.len() + check.locals.len();
     let actuals = List::new(alloc);

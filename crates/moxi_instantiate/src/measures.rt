@@ -13,9 +13,7 @@ use crate::checks::{check_height, check_size};
 use crate::counts::{MOST, cap, greater, known, sum};
 use crate::functions::{body_heights, body_sizes};
 use crate::systems::{Measure, amounts, order_of};
-use moxi_flat::{
-    DEEPEST, HIGHEST, LARGEST, nesting_falls, systems_are_over_variables, systems_bound_nesting,
-};
+use moxi_flat::{DEEPEST, HIGHEST, LARGEST};
 use moxi_scripts::{Script, spelled_scripts_are_valid};
 use std::alloc::Global;
 use text_core::{List, NoMemory};
@@ -43,9 +41,6 @@ pub(crate) fn script_is_ranked(script: &Script)
     ensures there { script.now.check.system < length (plain_script script.now).systems }
 {
     spelled_scripts_are_valid();
-    nesting_falls();
-    systems_bound_nesting();
-    systems_are_over_variables();
 }
 
 // The count of the checked system.

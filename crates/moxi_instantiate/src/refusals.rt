@@ -12,7 +12,6 @@ ghost use Rattle.moxi_instantiate.specs.Instances.{IsInstEnd};
 
 use crate::measures::{is_too_large, script_is_ranked, script_is_valid};
 use crate::variables::{add_locals, own_variables};
-use moxi_flat::single_systems_are_flat;
 use moxi_scripts::Script;
 use moxi_terms::Variables;
 use name_maps::NameSet;
@@ -50,7 +49,6 @@ fn is_single_system(script: &Script) -> bool
 {
     script_is_valid(script);
     script_is_ranked(script);
-    single_systems_are_flat();
     let checked = script.systems.at(script.check.system as usize);
     checked.subsystems.len() == 0
 }

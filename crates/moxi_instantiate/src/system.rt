@@ -16,10 +16,6 @@ use crate::measures::script_is_valid;
 use crate::parts::{Parts, own_parts};
 use crate::refusals::accepted_variables;
 use crate::variables::own_variables;
-use moxi_flat::{
-    flat_systems_are_small, flat_systems_are_sorted, flat_systems_have_sizes,
-    single_systems_are_flat,
-};
 use moxi_scripts::{Check, Formulas, Queries, Script, System};
 use moxi_terms::{Scope, Variables};
 use std::alloc::Global;
@@ -121,7 +117,6 @@ impl<'a> FlatSystem<'a> {
         ensures { ∥ IsSortedFlat self.now ∥₁ }
     {
         self.is_instance();
-        flat_systems_are_sorted();
     }
 
     /// Proves that the flat system is within the limits.
@@ -135,8 +130,6 @@ impl<'a> FlatSystem<'a> {
         ensures names { are_fresh [] (variable_names self.now.variables) ≡ true }
     {
         self.is_instance();
-        flat_systems_have_sizes();
-        flat_systems_are_small();
     }
 }
 
@@ -173,7 +166,6 @@ pub fn flat_of_single<'a>(
     requires { ∥ IsSingle (single_script scope.now (plain_system system) (plain_check check.now)) ∥₁ }
     ensures { IfOk result (λ f. f ≡ flat_of (single_script scope.now (plain_system system) (plain_check check.now))) }
 {
-    single_systems_are_flat();
     let parts = own_parts(alloc, system)?;
     let variables = own_variables(alloc, check)?;
     Ok(FlatSystem {

@@ -12,11 +12,9 @@ ghost use Rattle.moxi_scripts.specs.Behaviour.{trace_of};
 
 use crate::parts::parts_failing;
 use crate::queries::{mark_reached, query_failing};
-use moxi_flat::{hidden_values_are_written, parts_are_tested};
 use moxi_instantiate::FlatSystem;
 use moxi_scripts::{
     MoxiTrace, Query, Script, queries_are_met_where_nothing_fails, spelled_scripts_are_valid,
-    steps_are_tested_by_system_and_query,
 };
 use moxi_terms::Env;
 use std::alloc::Global;
@@ -104,9 +102,6 @@ pub fn judge_moxi(
     ensures yes { IfOk result (λ v. (v ≡ Verdict.Yes) ↔ MeetsFlat (flat_of (plain_script script.now)) (query_at script.now.check.queries q) (length trace.now - 1) (trace_of trace.now)) }
 {
     spelled_scripts_are_valid();
-    hidden_values_are_written();
-    parts_are_tested();
-    steps_are_tested_by_system_and_query();
     queries_are_met_where_nothing_fails();
     system.is_sorted();
     let query = script.check.queries.at(q as usize);

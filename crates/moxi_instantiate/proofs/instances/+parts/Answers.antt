@@ -14,6 +14,7 @@ use Rattle.moxi_instantiate.proofs.Agreeing.{inside_parts}
 use Rattle.moxi_instantiate.proofs.Filling.{system_read}
 use Rattle.moxi_instantiate.proofs.Held.{ranked_held, sub_at}
 use Rattle.moxi_instantiate.proofs.Instanced.{on_ok, parts_end, room_at, sums_end}
+use Rattle.moxi_flat.proofs.Alike.{renumbers_consistently_law}
 use Rattle.moxi_instantiate.proofs.instances.+parts.Goals as goal
 
 pub add_inside-returns-clause-parts : goal.add_inside-returns-clause-parts
@@ -25,7 +26,7 @@ add_inside-returns-clause-parts t c =
     on_ok c.add_parts.result
     (λ e. e
     ∙ ap (λ ps. map plain_part c.args.parts.now ++ ps)
-    (inside_parts ss c.renumbers_consistently.ensures c.requires.over (number_in c.args.places.now) c.args.subsystem.now c.args.fresh c.len-locals.result c.deref.result.now c.requires.there c.requires.actuals
+    (inside_parts ss renumbers_consistently_law c.requires.over (number_in c.args.places.now) c.args.subsystem.now c.args.fresh c.len-locals.result c.deref.result.now c.requires.there c.requires.actuals
     (c.len-locals.ensures ∙ ap (λ s. length s.locals) same) (λ v l. ap (λ xs. number_in xs v) c.deref.ensures.value ∙ c.in_ok-inside.ensures.places v l)))
     c.add_parts.ensures.parts
 

@@ -6,6 +6,7 @@ use Rattle.moxi_flat.specs.FlatSystem.{parts_upto}
 use Rattle.moxi_instantiate.specs.Copying.{number_in}
 use Rattle.moxi_instantiate.specs.PlainParts.{plain_part}
 use Rattle.moxi_instantiate.proofs.Agreeing.{own_parts}
+use Rattle.moxi_flat.proofs.Alike.{renumbers_consistently_law}
 use Rattle.moxi_instantiate.proofs.instances.flat_parts.Goals as goal
 
 pub returns : goal.returns
@@ -19,5 +20,5 @@ returns c =
     ∙ ap (λ k. length c.args.script.now.check.inputs + length c.args.script.now.check.outputs + k) c.len-3.ensures ∙ c.script_is_over_variables.ensures.count in
     c.in_ok-add_parts.ensures.parts
     ∙ ap (λ ps. map plain_part ps ++ parts_upto ss (length ss) (number_in c.deref.result.now) count i) c.new-parts.ensures
-    ∙ own_parts ss c.renumbers_consistently.ensures c.script_is_over_variables.ensures.over i own count c.new-actuals.result c.deref.result.now c.script_is_ranked.ensures.there c.script_is_over_variables.ensures.long
+    ∙ own_parts ss renumbers_consistently_law c.script_is_over_variables.ensures.over i own count c.new-actuals.result c.deref.result.now c.script_is_ranked.ensures.there c.script_is_over_variables.ensures.long
     c.new-actuals.ensures (λ v l. ap (λ xs. number_in xs v) c.deref.ensures.value ∙ c.in_ok-places.ensures.places v l) counted

@@ -13,6 +13,8 @@ use Rattle.moxi_judge.specs.Judging.{IsStatedTrace}
 use Rattle.moxi_judge.proofs.Elements.{all_at, found_at}
 use Rattle.moxi_judge.proofs.Held.{can_judge}
 use Rattle.moxi_judge.proofs.Verdicts.{if_ok_more, parts_give_verdict, stated_suit, verdict_is, yes_is_met}
+use Rattle.moxi_flat.proofs.Tested.{hidden_values_are_written_law, parts_are_tested_law}
+use Rattle.moxi_scripts.proofs.AskingLaws.{first_part}
 use Rattle.moxi_judge.proofs.judge.judge_moxi.Goals as goal
 use Rattle.moxi_scripts.specs.Behaviour.{trace_of}
 
@@ -35,7 +37,7 @@ returns-clause-verdict c =
     let whole = ∥∥₁_map c.args.script.now.spelled (λ (i : IsSpelled (plain_script c.args.script.now)). c.spelled_scripts_are_valid.ensures i.forms i.end s i.spelled) in
     subst (λ w. IfOk c.judge_steps.result (λ v. v ≡ w))
     (verdict_is c.args.system.now (flat_of s) c.at-query.result.now q c.as_slice.result.now envs c.requires.system query c.as_slice.ensures c.requires.trace.some
-    ∙ parts_give_verdict c.hidden_values_are_written.ensures c.parts_are_tested.ensures c.steps_are_tested_by_system_and_query.ensures.first s whole q (length envs - 1) (trace_of envs))
+    ∙ parts_give_verdict hidden_values_are_written_law parts_are_tested_law first_part s whole q (length envs - 1) (trace_of envs))
     c.judge_steps.ensures
 
 pub returns-clause-yes : goal.returns-clause-yes
