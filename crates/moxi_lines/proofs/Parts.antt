@@ -1,6 +1,7 @@
 -- The constraints of parts hold exactly where their formulas are true.
 use Rattle.std.proofs.Common.{◌≡◌, ℕ, ◌<◌, ◌≤◌, ◌^◌, Bool, true, false, not, ◌&&◌, ◌||◌, cond, List, [], ◌∷◌, length, refl, sym, ap, ◌∙◌, subst, arith, inl, inr, ◌⊎◌, zero, suc}
 use Rattle.std.specs.List.{AllByRecursion}
+use Rattle.std.proofs.Math.Bool.{or-true}
 use Rattle.std.proofs.lemmas.Bool.{and_parts, and_from}
 use Rattle.word_core.specs.Words.{BitVector, IsWord}
 use Rattle.word_core.specs.Table.{binary_of, bit_of}
@@ -119,10 +120,6 @@ module _ (f : PlainFlatSystem) (codes : HaveCodes f.scope.enumerations) (functio
   abbrev trans_g : List Line → Tree → Built
   trans_g lines t = with_binary two.Or (step_m lines t).0 first_place (step_m lines t).1
 
-  or_true : (b : Bool) → (b || true) ≡ true
-  or_true true = refl
-  or_true false = refl
-
   later_there : (a b : List Line) → Extends a b → VariablesAreThere f row known both first inputs before now a → VariablesAreThere f row known both first inputs before now b
   later_there a b g t =
       record {
@@ -168,7 +165,7 @@ module _ (f : PlainFlatSystem) (codes : HaveCodes f.scope.enumerations) (functio
   init_constrains : (lines : List Line) (t : Tree) → AreNumbered lines → VariablesAreThere f row known both first inputs before now lines → IsFlatTruth f t → length (with_init f.scope inputs lines t) < greatest_id
       → Constrains row known lines (with_init f.scope inputs lines t) (not first || is_true f.scope now now t)
   init_constrains lines t n v h room =
-      chosen row known (is_true_term t) lines (with_constraint (init_g lines t)) (not first || is_true f.scope now now t) n (λ e. ap (λ u. not first || is_true f.scope now now u) (is_true_means t e) ∙ or_true (not first))
+      chosen row known (is_true_term t) lines (with_constraint (init_g lines t)) (not first || is_true f.scope now now t) n (λ e. ap (λ u. not first || is_true f.scope now now u) (is_true_means t e) ∙ or-true (not first))
       (λ e.
       let few = shorter (init_g lines t) (subst (λ c. length (cond c lines (with_constraint (init_g lines t))) < greatest_id) e room) in
       let made = now_made lines t n v h (gate_small two.Implies (now_m lines t) few) in
@@ -183,7 +180,7 @@ module _ (f : PlainFlatSystem) (codes : HaveCodes f.scope.enumerations) (functio
   trans_constrains : (lines : List Line) (t : Tree) → AreNumbered lines → VariablesAreThere f row known both first inputs before now lines → IsFlatTruth f t → length (with_trans f.scope inputs lines t) < greatest_id
       → Constrains row known lines (with_trans f.scope inputs lines t) (first || is_true f.scope before now t)
   trans_constrains lines t n v h room =
-      chosen row known (is_true_term t) lines (with_constraint (trans_g lines t)) (first || is_true f.scope before now t) n (λ e. ap (λ u. first || is_true f.scope before now u) (is_true_means t e) ∙ or_true first)
+      chosen row known (is_true_term t) lines (with_constraint (trans_g lines t)) (first || is_true f.scope before now t) n (λ e. ap (λ u. first || is_true f.scope before now u) (is_true_means t e) ∙ or-true first)
       (λ e.
       let few = shorter (trans_g lines t) (subst (λ c. length (cond c lines (with_constraint (trans_g lines t))) < greatest_id) e room) in
       let made = step_made lines t n v h (gate_small two.Or (step_m lines t) few) in

@@ -1,21 +1,19 @@
 -- When the constraints of the parts' lines hold in a frame.
-use Rattle.std.specs.Prelude.{◌≡◌, ◌↔◌, ℕ, ◌<◌, Bool, true, false, not, ◌&&◌, ◌||◌, List, [], ◌++◌, length}
-use Rattle.std.specs.List.{AllByRecursion, list_all}
+use Rattle.std.specs.Prelude.{◌≡◌, ◌↔◌, ℕ, Bool, true, false, not, ◌&&◌, ◌||◌, List, [], ◌++◌}
+use Rattle.std.specs.List.{list_all}
 use Rattle.word_core.specs.Words.{BitVector}
 use Rattle.word_core.specs.Table.{bit_of}
 use Rattle.btor_tree.specs.declared.lines.Line.{Line}
-use Rattle.btor_tree.specs.Fits.{greatest_id, width_at}
+use Rattle.btor_tree.specs.Fits.{width_at}
 use Rattle.btor_tree.specs.Frame.{ConstraintsHold, Meets, word_at}
 use Rattle.moxi_terms.specs.Operators.{truth_of}
-use Rattle.moxi_terms.specs.Sorted.{AreFunctions}
 use Rattle.moxi_terms.specs.Tree.{Tree, sorts_of}
 use Rattle.moxi_terms.specs.Value.{Values, term_value}
 use Rattle.moxi_terms.specs.View.{ScopeState}
 use Rattle.moxi_scripts.specs.Script.{calls_in}
-use Rattle.moxi_flat.specs.FlatSorts.{PartIsSorted}
 use Rattle.moxi_flat.specs.FlatSystem.{PlainFlatSystem, PlainPart}
-use Rattle.moxi_lines.specs.TermLaws.{AreNumbered, HaveCodes, VariablesAreRepresented}
-use Rattle.moxi_lines.specs.Lines.{first_place, input_place, state_place, with_parts}
+use Rattle.moxi_lines.specs.TermLaws.{AreNumbered, VariablesAreRepresented}
+use Rattle.moxi_lines.specs.Lines.{first_place, input_place, state_place}
 
 -- a formula is true of the values before and now
 abbrev pub is_true : ScopeState → Values → Values → Tree → Bool
@@ -44,9 +42,3 @@ pub record VariablesAreThere (f : PlainFlatSystem) (row : List BitVector) (known
   pub now_known : VariablesAreRepresented f.scope.enumerations row known lines (sorts_of f.variables) (input_place inputs) now
   pub now_both : VariablesAreRepresented f.scope.enumerations row both lines (sorts_of f.variables) (input_place inputs) now
   pub before_both : VariablesAreRepresented f.scope.enumerations row both lines (sorts_of f.variables) (state_place inputs) before
-
--- the constraints of the parts' lines hold exactly where those before do and the parts' formulas are true
-abbrev pub PartsAreConstrained : Type 0
-PartsAreConstrained = (f : PlainFlatSystem) → HaveCodes f.scope.enumerations → AreFunctions f.scope.enumerations f.scope.functions → (ps : List PlainPart) → AllByRecursion (PartIsSorted f) ps
-    → (row : List BitVector) (known both first : Bool) (inputs : List ℕ) (before now : Values) (lines : List Line) → AreNumbered lines → VariablesAreThere f row known both first inputs before now lines
-    → length (with_parts f.scope inputs lines ps) < greatest_id → Constrains row known lines (with_parts f.scope inputs lines ps) (parts_hold f.scope first before now ps)

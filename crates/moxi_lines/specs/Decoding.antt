@@ -1,23 +1,21 @@
 -- The values that a frame's words stand for.
-use Rattle.std.specs.Prelude.{◌≡◌, ℕ, ◌<◌, nat_lt, Bool, true, if◌then◌else◌, List, length, Some, slice_get, slice_index_or}
-use Rattle.std.specs.List.{AllByRecursion}
+use Rattle.std.specs.Prelude.{◌≡◌, ℕ, nat_lt, Bool, true, if◌then◌else◌, List, Some, slice_get, slice_index_or}
 use Rattle.word_core.specs.Words.{BitVector}
 use Rattle.btor_tree.specs.declared.lines.Line.{Line}
-use Rattle.btor_tree.specs.Frame.{Meets, word_at}
+use Rattle.btor_tree.specs.Frame.{word_at}
 use Rattle.moxi_terms.specs.declared.data.Sort.{Sort}
 use Rattle.moxi_terms.specs.declared.data.Sort.TheVariants.{Truth, Choice}
 use Rattle.moxi_terms.specs.declared.data.Datum.{Datum}
 use Rattle.moxi_terms.specs.declared.data.Datum.TheVariants as datum
 use Rattle.moxi_terms.specs.declared.term.Enumeration.{Enumeration}
 use Rattle.moxi_terms.specs.declared.term.Variable.{Variable}
-use Rattle.moxi_terms.specs.Sorted.{AreSorts}
 use Rattle.moxi_terms.specs.Tree.{sorts_of}
 use Rattle.moxi_terms.specs.Value.{Values}
 use Rattle.moxi_terms.specs.Names.{constant_count}
 use Rattle.moxi_lines.specs.Codes.{datum_of}
-use Rattle.moxi_lines.specs.TermLaws.{AreNumbered, HaveCodes, VariablesAreRepresented}
+use Rattle.moxi_lines.specs.TermLaws.{VariablesAreRepresented}
 use Rattle.moxi_lines.specs.Lines.{input_place, state_place}
-use Rattle.moxi_lines.specs.Variables.{AreVariablesAt, IsInside}
+use Rattle.moxi_lines.specs.Variables.{IsInside}
 
 -- the value of a sort that a word stands for; a word that is no constant's stands for the first one
 abbrev pub decoded_datum : List Enumeration → Sort → BitVector → Datum
@@ -37,7 +35,3 @@ pub record PlacesInside (es : List Enumeration) (vs : List Variable) (row : List
 pub record Decodes (es : List Enumeration) (vs : List Variable) (row : List BitVector) (lines : List Line) (inputs : List ℕ) : Type 0 where
   pub now : (known : Bool) → (known ≡ true → PlacesInside es vs row (input_place inputs)) → VariablesAreRepresented es row known lines (sorts_of vs) (input_place inputs) (decoded es vs row (input_place inputs))
   pub before : (known : Bool) → (known ≡ true → PlacesInside es vs row (state_place inputs)) → VariablesAreRepresented es row known lines (sorts_of vs) (state_place inputs) (decoded es vs row (state_place inputs))
-
-abbrev pub WordsAreDecoded : Type 0
-WordsAreDecoded = (es : List Enumeration) → HaveCodes es → AllByRecursion (λ (e : Enumeration). 0 < length e.constants) es → (vs : List Variable) → AreSorts es (sorts_of vs)
-    → (lines : List Line) (inputs : List ℕ) → AreNumbered lines → AreVariablesAt es lines vs inputs → (row : List BitVector) → Meets lines row → Decodes es vs row lines inputs

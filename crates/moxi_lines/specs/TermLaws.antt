@@ -1,7 +1,7 @@
 -- The law of a term's lines: in each row of words that meets them, the word at the term's place is that of its value.
 use Rattle.std.specs.Prelude.{◌≡◌, ℕ, ◌<◌, ◌≤◌, ◌^◌, Bool, true, List, [], ◌∷◌, length, slice_get, Some}
 use Rattle.std.specs.List.{AllByRecursion}
-use Rattle.word_core.specs.Words.{BitVector, IsWord}
+use Rattle.word_core.specs.Words.{BitVector}
 use Rattle.btor_tree.specs.declared.lines.Line.{Line}
 use Rattle.btor_tree.specs.Fits.{IsWellFormed, greatest_id, last_id, width_at}
 use Rattle.btor_tree.specs.Frame.{Meets, word_at}
@@ -14,7 +14,7 @@ use Rattle.moxi_terms.specs.Sorts.{IsOf}
 use Rattle.moxi_terms.specs.Sorted.{AreFunctions, HasSort}
 use Rattle.moxi_terms.specs.Tree.{Tree, PlainFunction}
 use Rattle.moxi_terms.specs.Value.{Values, calls_upto, term_value}
-use Rattle.moxi_lines.specs.Codes.{choice_width, code_of, datum_of, sort_bits}
+use Rattle.moxi_lines.specs.Codes.{code_of, datum_of, sort_bits}
 use Rattle.moxi_lines.specs.TermLines.{Built, call_lines, with_term}
 
 -- lines with the ids 1, 2, 3 and so on, each of which may follow the ones before it
@@ -51,25 +51,9 @@ pub record Makes (es : List Enumeration) (row : List BitVector) (known : Bool) (
 
 -- ---- laws
 
--- the width of an enumeration's words holds all places, and no smaller one of at least 1 does
-abbrev pub ChoiceWidthsAreLeast : Type 0
-ChoiceWidthsAreLeast = (count : ℕ) → (1 ≤ choice_width count) × (count ≤ 2 ^ choice_width count) × ((w : ℕ) → 1 ≤ w → count ≤ 2 ^ w → choice_width count ≤ w)
-
--- the word of a value of a sort is a word of the sort's width
-abbrev pub CodesAreWords : Type 0
-CodesAreWords = (es : List Enumeration) → HaveCodes es → (s : Sort) (d : Datum) → IsOf es s d → IsWord (code_of es d) × ((code_of es d).width ≡ sort_bits es s)
-
 -- a value of a sort comes back from its word
 abbrev pub CodesRoundTrip : Type 0
 CodesRoundTrip = (es : List Enumeration) (s : Sort) (d : Datum) → IsOf es s d → datum_of s (code_of es d) ≡ d
-
--- a word of a sort's width comes back from the value that it stands for
-abbrev pub WordsRoundTrip : Type 0
-WordsRoundTrip = (es : List Enumeration) (s : Sort) (x : BitVector) → IsWord x → x.width ≡ sort_bits es s → code_of es (datum_of s x) ≡ x
-
--- the lines of a term are sorts, constants and operators alone
-abbrev pub TermsGrowByShared : Type 0
-TermsGrowByShared = (es : List Enumeration) (fs : List PlainFunction) (now later : ℕ → ℕ) (lines : List Line) (t : Tree) → GrowsByShared lines (with_term es (call_lines es fs (length fs)) now later [] lines t).0
 
 -- The lines of a term over variables that are at places: where their words are known, the word at the term's place is that of its value.
 abbrev pub TermsHaveTheirWords : Type 0

@@ -1,19 +1,17 @@
 -- What the lines of variables are: inputs, the states of the step before, and when the codes of enumerations are inside.
-use Rattle.std.specs.Prelude.{◌≡◌, ◌↔◌, ℕ, suc, ◌<◌, true, List, [], ◌∷◌, ◌++◌, length, Some}
+use Rattle.std.specs.Prelude.{◌≡◌, ◌↔◌, ℕ, suc, ◌<◌, true, List, [], ◌∷◌, ◌++◌, Some}
 use Rattle.word_core.specs.Words.{BitVector}
 use Rattle.btor_tree.specs.declared.lines.Line.{Line}
-use Rattle.btor_tree.specs.Fits.{greatest_id, is_input, is_next, is_state, kind_at, plain_arg, state_value, width_at}
+use Rattle.btor_tree.specs.Fits.{is_input, is_next, is_state, kind_at, plain_arg, state_value, width_at}
 use Rattle.btor_tree.specs.Frame.{ConstraintsHold, Meets, word_at}
 use Rattle.moxi_terms.specs.declared.data.Sort.{Sort}
 use Rattle.moxi_terms.specs.declared.data.Sort.TheVariants.{Choice}
 use Rattle.moxi_terms.specs.declared.term.Enumeration.{Enumeration}
 use Rattle.moxi_terms.specs.declared.term.Variable.{Variable}
-use Rattle.moxi_terms.specs.Sorted.{AreSorts}
-use Rattle.moxi_terms.specs.Tree.{sorts_of}
 use Rattle.moxi_terms.specs.Names.{constant_count}
 use Rattle.moxi_lines.specs.Codes.{sort_bits}
-use Rattle.moxi_lines.specs.TermLaws.{AreNumbered, HaveCodes}
-use Rattle.moxi_lines.specs.Lines.{head_lines, with_variables}
+use Rattle.moxi_lines.specs.TermLaws.{AreNumbered}
+use Rattle.moxi_lines.specs.Lines.{head_lines}
 
 -- an input, and behind it a state of its width whose next value it is
 pub record IsVariableAt (es : List Enumeration) (lines : List Line) (v : Variable) (p : ℕ) : Type 0 where
@@ -45,7 +43,3 @@ pub record AreVariableLines (es : List Enumeration) (vs : List Variable) (lines 
   pub numbered : AreNumbered lines
   pub each : AreVariablesAt es lines vs inputs
   pub constraints : (row : List BitVector) → Meets lines row → ConstraintsHold lines row ↔ AreInside es row vs inputs
-
-abbrev pub VariablesHaveLines : Type 0
-VariablesHaveLines = (es : List Enumeration) → HaveCodes es → (vs : List Variable) → AreSorts es (sorts_of vs) → length (with_variables es (head_lines, []) vs).0 < greatest_id
-    → AreVariableLines es vs (with_variables es (head_lines, []) vs).0 (with_variables es (head_lines, []) vs).1

@@ -7,11 +7,5 @@
 mod system_laws;
 mod term_laws;
 
-pub use system_laws::{
-    parts_are_constrained, systems_are_constrained, systems_are_framed, variables_have_lines,
-    words_are_decoded,
-};
-pub use term_laws::{
-    choice_widths_are_least, codes_are_words, codes_round_trip, terms_grow_by_shared,
-    terms_have_their_words, words_round_trip,
-};
+pub use system_laws::{systems_are_constrained, systems_are_framed};
+pub use term_laws::{codes_round_trip, terms_have_their_words};
