@@ -9,7 +9,7 @@ mod count_laws;
 mod layout_laws;
 mod line_laws;
 
-pub use constant_laws::{codes_are_few, constants_are_few};
+pub use constant_laws::codes_are_few;
 pub use count_laws::{
     flat_sizes_are_script_sizes, lines_are_counted, lines_stay_few, no_duplicate_lines,
 };
