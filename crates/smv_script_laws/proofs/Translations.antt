@@ -1,5 +1,6 @@
 -- Each typed expression's term has the code of its value, and what says whether a value is among those that an expression permits says so.
 use Rattle.std.proofs.Common.{◌≡◌, ℕ, ◌+◌, ◌^◌, ◌≤◌, max, Bool, true, false, not, ◌&&◌, ◌||◌, ◌==◌, nat_lt, if◌then◌else◌, ℤ, pos, ◌≤ℤ◌, int_le, List, [], ◌∷◌, ◌++◌, map, length, Option, Some, None, option_map, refl, sym, ap, ◌∙◌, subst, length-append, arith}
+use Rattle.std.proofs.Math.Bool.{or-true}
 use Rattle.std.proofs.lemmas.Int.{ints}
 use Rattle.std.specs.List.{list_all}
 use Rattle.text_core.specs.declared.place.Place.{Place}
@@ -62,10 +63,6 @@ plain_joined o d e h = refl
 plain_no_union : (o : Infix) → is_plain o ≡ true → is_union o ≡ false
 plain_no_union Union h = absurd_bool h
 plain_no_union o h = refl
-
-or_true_right : (b : Bool) → (b || true) ≡ true
-or_true_right true = refl
-or_true_right false = refl
 
 pick_code : {X : Type 0} (f : Denotation → X) (b : Bool) (d e : Denotation) → (if b then f d else f e) ≡ f (if b then d else e)
 pick_code f true d e = refl
@@ -560,7 +557,7 @@ module _ (c : Coding) (symbols : List (List ℕ)) (some : 1 ≤ c.width) (calls 
         let k = all_cons (typing names at v).type [] us h in
         let b = both_true (has_operators q) (has_operators v && true) o in
         let b' = both_true (has_operators v) true b.1 in
-        subst (λ z. SaysAll c.width symbols calls now later us (if z then denote f g v else alone no_value) at.sets (translation c (flat_tree names leaf at under v))) (sym (or_true_right (is_true (denote f g q).value)))
+        subst (λ z. SaysAll c.width symbols calls now later us (if z then denote f g v else alone no_value) at.sets (translation c (flat_tree names leaf at under v))) (sym (or-true (is_true (denote f g q).value)))
         (as_types (k.0 ∷ k.1) us (denote f g v) at.sets (translation c (flat_tree names leaf at under v)) k.4 (alone_all k.0 k.1 (denote f g v) at.sets (translation c (flat_tree names leaf at under v)) (says under f hf kf at v b'.0 (omega (arith, l)) k.0 k.2)))
     taken_says under f hf kf at (branch q v (branch s w rest)) n o l qs a us h =
         let k = all_cons (typing names at v).type (value_types names at (branch s w rest) []) us h in

@@ -8,7 +8,7 @@ use Rattle.smv_text.specs.Sources.{SpellsSource}
 use Rattle.smv_meaning.specs.Instances.{instances_of, weight_of}
 use Rattle.smv_meaning.specs.Phases.{IsAccepted}
 use Rattle.smv_items.specs.FlatItems.{symbols_of}
-use Rattle.smv_flat.specs.FlatForms.{PlainFlat, flat_smv}
+use Rattle.smv_flat.specs.FlatForms.{flat_smv}
 use Rattle.moxi_sexpr.specs.Lexing.{limit}
 use Rattle.moxi_scripts.specs.Script.{PlainScript, variables_in}
 use Rattle.moxi_term_print.specs.Shown.{shown_depths}
@@ -39,10 +39,6 @@ HeightsAreLow = (source : PlainSource) (end : Place) (xs : List Token) → Spell
 abbrev pub BracketsAreFew : Type 0
 BracketsAreFew = (source : PlainSource) (end : Place) (xs : List Token) → SpellsSource source end xs → first_high (of_modules source.modules) ≡ None → (width : ℕ)
     → shown_depths (shown_script (script_of (flat_smv source) width)) ≤ 1145
-
--- one system without subsystems
-abbrev pub NestsOnce : Type 0
-NestsOnce = (flat : PlainFlat) (width : ℕ) → script_nesting (script_of flat width) ≡ 1
 
 -- The script passes no limit of this translator: those of an instantiated system, and that of the open brackets of its text.
 pub record IsSmall (p : PlainScript) : Type 0 where

@@ -1,5 +1,5 @@
 // Laws of the sizes of scripts. These functions do nothing.
-ghost use Rattle.smv_script_laws.specs.BoundLaws.{SizesByWeight, CountsByWeight, HeightsAreLow, BracketsAreFew, NestsOnce, ScriptsAreSmall, SymbolsByWeight};
+ghost use Rattle.smv_script_laws.specs.BoundLaws.{SizesByWeight, CountsByWeight, HeightsAreLow, BracketsAreFew, ScriptsAreSmall, SymbolsByWeight};
 
 /// Proves that the size of the instantiated system is at most five times the model's weight, plus five.
 pub fn sizes_are_weighed()
@@ -25,11 +25,6 @@ pub fn heights_are_low()
 /// than 380.
 pub fn brackets_are_few()
     ensures { BracketsAreFew }
-{}
-
-/// Proves that the script has one system without subsystems.
-pub fn scripts_nest_once()
-    ensures { NestsOnce }
 {}
 
 /// Proves that the script of an accepted model is within all limits, if no expression of the model is higher than 380.

@@ -6,20 +6,16 @@
 
 mod bound_laws;
 mod environment_laws;
-mod formula_laws;
-mod place_laws;
 mod run_laws;
 mod sort_laws;
 mod term_laws;
 mod whole_laws;
 
 pub use bound_laws::{
-    brackets_are_few, counts_are_weighed, heights_are_low, scripts_are_small, scripts_nest_once,
-    sizes_are_weighed, symbols_are_weighed,
+    brackets_are_few, counts_are_weighed, heights_are_low, scripts_are_small, sizes_are_weighed,
+    symbols_are_weighed,
 };
 pub use environment_laws::{environments_are_rows, rows_have_environments};
-pub use formula_laws::{forms_say, formula_splits, items_say};
-pub use place_laws::{item_has_place, place_is_of_item, places_differ};
 pub use run_laws::runs_are_traces;
 pub use sort_laws::terms_are_well_scoped;
 pub use term_laws::{data_round_trip, terms_have_values, values_round_trip};
