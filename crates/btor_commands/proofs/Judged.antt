@@ -1,5 +1,5 @@
 -- What a judge says of a file is what is defined of it.
-use Rattle.std.proofs.Common.{◌≡◌, ◌≤◌, inl, inr, ℕ, List, [], ◌∷◌, Option, Some, None, refl, sym, ap, ◌∙◌, subst, length, arith}
+use Rattle.std.proofs.Common.{◌≤◌, inl, inr, ℕ, List, [], ◌∷◌, Option, Some, None, refl, sym, ap, ◌∙◌, subst, length, arith}
 use Rattle.std.specs.Prelude.{IfSome}
 use Rattle.text_core.specs.Outside.{Files, IsFile}
 use Rattle.text_core.specs.declared.verdict.Verdict.{Verdict}

@@ -3,4 +3,5 @@ pub mod Fronts
 pub mod Judged
 pub mod Lifted
 pub mod Imported
+pub mod SmallerFrames
 pub mod Smaller

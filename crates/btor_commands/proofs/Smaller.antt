@@ -3,6 +3,7 @@ use Rattle.std.proofs.Common.{◌≡◌, ◌∙◌, ℕ, List, Option, Some, Res
 use Rattle.std.specs.Prelude.{IfOk}
 use Rattle.text_core.specs.Outside.{Files, file_at, grown}
 use Rattle.btor_tree.specs.declared.lines.Line.{Line}
+use Rattle.btor_tree.specs.Fits.{IsWellFormed}
 use Rattle.btor_tree.specs.Printing.{printed}
 use Rattle.btor_tree.specs.Texts.{SpellsLines}
 use Rattle.btor_tree.proofs.Grows.{empty_well_formed}
@@ -27,6 +28,7 @@ use Rattle.command_core.specs.laws.Files.{done_from, goes_once}
 use Rattle.command_core.specs.laws.Texts.{done_text, one_answer}
 use Rattle.btor_commands.specs.Judgement.{btor_too_long}
 use Rattle.btor_commands.specs.Limits.{most_btor_bytes}
+use Rattle.btor_commands.proofs.SmallerFrames.{frames_kept}
 use Rattle.btor_commands.specs.Simplifying.{IsCorrectOutput, IsSimplification, IsSmallerText, OfBytes, SmallerTextsAreCorrect, WritesSmaller}
 
 -- ---- one answer
@@ -67,9 +69,10 @@ correct_output stands fs model b before now h s w =
 
 pub stands : ListsGetSmaller → SmallerTextsAreCorrect
 stands smaller bytes lines new spelled simplified =
-    let keeps : IsSmallerList lines new = smaller lines new (reads_well_formed spelled empty_well_formed) simplified in
+    let well : IsWellFormed lines = reads_well_formed spelled empty_well_formed in
+    let keeps : IsSmallerList lines new = smaller lines new well simplified in
     let again : SpellsLines (printed new) new = printed_spells new keeps.well_formed in
-    record { smaller = new; spelled = again; only = λ others t. one_list t again refl; keeps = keeps }
+    record { smaller = new; spelled = again; only = λ others t. one_list t again refl; keeps = keeps; frames = frames_kept lines new well keeps }
 
 -- ---- a witness for the smaller text
 

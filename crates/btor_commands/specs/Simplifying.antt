@@ -1,5 +1,5 @@
 -- The smaller text written for a BTOR2 text, and what it preserves (BTOR2, CAV 2018).
-use Rattle.std.specs.Prelude.{◌≡◌, ℕ, List, Option, Some}
+use Rattle.std.specs.Prelude.{◌≡◌, ◌↔◌, ℕ, List, Option, Some}
 use Rattle.text_core.specs.Outside.{Files, file_at, grown}
 use Rattle.text_core.specs.declared.end.End.TheVariants.{Bad}
 use Rattle.btor_tree.specs.declared.lines.Line.{Line}
@@ -8,6 +8,7 @@ use Rattle.btor_tree.specs.Texts.{SpellsLines}
 use Rattle.btor_text.specs.Answer.{IsRefused}
 use Rattle.btor_simplify.specs.Keeping.{IsSmallerList}
 use Rattle.btor_simplify.specs.Simplified.{IsSimplified}
+use Rattle.moxi_layout.specs.LayoutLaws.{HasFrames}
 use Rattle.command_core.specs.declared.answer.Answer.{Answer}
 use Rattle.command_core.specs.Reading.{ContinuesWith, file_within}
 use Rattle.command_core.specs.Texts.{IsTextOr}
@@ -32,12 +33,14 @@ IsSimplification files model answer = ContinuesWith (file_within files model mos
 
 -- ---- what the smaller text preserves
 
--- the text spells one list of lines in normal form, at most as many as `lines`, with the same words and witnesses
+-- The text spells one list of lines in normal form, at most as many as `lines`, with the same words and witnesses. For each j and k it
+-- has frames 0 to k with every constraint true and bad line j true in frame k exactly when `lines` has such frames.
 pub record WritesSmaller (lines : List Line) (text : List ℕ) : Type 0 where
   pub smaller : List Line
   pub spelled : SpellsLines text smaller
   pub only : (others : List Line) → SpellsLines text others → others ≡ smaller
   pub keeps : IsSmallerList lines smaller
+  pub frames : (j k : ℕ) → HasFrames lines j k ↔ HasFrames smaller j k
 
 -- the text written for each text preserves these
 abbrev pub SmallerTextsAreCorrect : Type 0

@@ -14,6 +14,7 @@ pub mod WitnessesPlaces
 pub mod GivenValues
 pub mod Runs
 pub mod WitnessesFrames
+pub mod RunsBack
 pub mod Witnesses
 pub mod Distinct
 pub mod Renaming

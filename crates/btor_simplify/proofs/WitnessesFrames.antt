@@ -79,7 +79,7 @@ bad_words lines row j =
     )
 
 -- a frame for any words that fit, after a frame or as frame 0
-made_frame : (lines : List Line) → IsWellFormed lines → (begun : Bool) (last : List BitVector) (free : ℕ → BitVector) → (begun ≡ true → IsFrame lines last) → FreeFits lines free
+pub made_frame : (lines : List Line) → IsWellFormed lines → (begun : Bool) (last : List BitVector) (free : ℕ → BitVector) → (begun ≡ true → IsFrame lines last) → FreeFits lines free
     → (row : List BitVector) × IsFrame lines row × ValuesHold begun lines last row × ((i : ℕ) (l : Line) → slice_get lines i ≡ Some l → l.op ≡ op.Input → word_at row i ≡ free i) × ((i : ℕ) (l : Line) → slice_get lines i ≡ Some l → l.op ≡ op.State → state_value (value_kind begun) lines i ≡ None → word_at row i ≡ free i)
 made_frame lines w true last free f ff = (
   next_row lines w last free,
@@ -140,10 +140,10 @@ module _ (old new : List Line) (place : ℕ → ℕ) (same : AreSameLines old ne
   given_fits image frame i l op.State at e = word_fits image frame i l at (ap is_shared e) (ap has_word e)
   given_fits image frame i l o at e = tt
 
-  free_fits : (image : List BitVector) → IsFrame new image → FreeFits old (λ i. word_at image (place i))
+  pub free_fits : (image : List BitVector) → IsFrame new image → FreeFits old (λ i. word_at image (place i))
   free_fits image frame = record { fits = λ i l at. given_fits image frame i l l.op at refl }
 
-  last_frame : (begun : Bool) (last before : List BitVector) → AreLast (AreAlike old new place) begun last before → begun ≡ true → IsFrame old last
+  pub last_frame : (begun : Bool) (last before : List BitVector) → AreLast (AreAlike old new place) begun last before → begun ≡ true → IsFrame old last
   last_frame true last before b e = b.0
   last_frame false last before b e = absurd (cc)
 
