@@ -17,6 +17,6 @@ pub use bytes::{lines_of, put_lines};
 pub use differences::{put_difference, put_number_difference, put_unreadable};
 pub use fault::{Fault, Unread};
 pub use files::Files;
-pub use piece::{Piece, has_piece, number, piece_bytes, utf8};
+pub use piece::{Piece, number, piece_bytes, utf8};
 pub use reading::{Case, Entry, read_cases};
 pub use tally::Tally;

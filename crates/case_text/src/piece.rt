@@ -8,11 +8,6 @@ pub struct Piece {
     pub bytes: Vec<u8>,
 }
 
-/// Returns whether there is a piece with this name.
-pub fn has_piece(pieces: &[Piece], name: &str) -> bool {
-    pieces.iter().any(|p| p.name.as_str() == name)
-}
-
 /// Returns the bytes of the first piece with this name.
 pub fn piece_bytes<'a>(pieces: &'a [Piece], name: &str) -> Result<&'a [u8], Fault> {
     for piece in pieces {
