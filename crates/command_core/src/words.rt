@@ -49,16 +49,17 @@ pub fn read_words<'a>(
 fn word_command<'a>(alloc: Global) -> Result<Command<'a>, AllocError>
     ensures { IfOk result (λ command. app_of command ≡ word_app) }
 {
-    let property = Arg::new(alloc, "property")
-        .long("property")
-        .action(ArgAction::Set);
     Command::new(alloc, "words")
         .no_binary_name(true)
         .disable_help_flag(true)
         .arg(Arg::new(alloc, "first"))?
         .arg(Arg::new(alloc, "second"))?
         .arg(Arg::new(alloc, "third"))?
-        .arg(property)
+        .arg(
+            Arg::new(alloc, "property")
+                .long("property")
+                .action(ArgAction::Set),
+        )
 }
 
 // The words from the parser's matches. None where the value of `--property` is not a number.
