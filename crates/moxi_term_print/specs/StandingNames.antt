@@ -6,10 +6,6 @@ use Rattle.moxi_sexpr.specs.Printing.{symbol_spelling}
 use Rattle.moxi_terms.specs.Names.{all_constants, enumeration_names, function_names}
 use Rattle.moxi_terms.specs.Tree.{Tree, constant, variable, bound, apply, binding, call, Trees, no_trees, tree}
 use Rattle.moxi_terms.specs.View.{ScopeState}
-use Rattle.moxi_term_reading.specs.declared.locals.Local.{Local}
-use Rattle.moxi_term_reading.specs.Reading.{Context, names_of}
-use Rattle.moxi_term_print.specs.Shown.{CanBeShown}
-use Rattle.moxi_term_print.specs.Terms.{shown_term}
 
 abbrev pub IsSpellable : List ℕ → Type 0
 IsSpellable name = IsTrue (may_appear (symbol_spelling name false) name)
@@ -30,11 +26,6 @@ abbrev mutual
   pub AllNamesAreSpellable : Trees → Type 0
   AllNamesAreSpellable no_trees = Unit {0}
   AllNamesAreSpellable (tree t ts) = NamesAreSpellable t × AllNamesAreSpellable ts
-
--- what is shown of a term in its place can be shown
-abbrev pub TermCanBeShown : Context → List Local → Tree → Type 0
-TermCanBeShown c bounds t = CanBeShown (shown_term c.scope (names_of c.variables) (names_of bounds) t)
-
 -- each name of the scope that a term or a sort can have in it
 pub record IsSpellableScope (s : ScopeState) : Type 0 where
   pub enumerations : AreSpellable (enumeration_names s)

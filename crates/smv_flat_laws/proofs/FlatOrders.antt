@@ -3,7 +3,7 @@ use Rattle.std.proofs.Common.{◌≡◌, ℕ, suc, ◌+◌, ◌<◌, ◌≤◌, 
 use mathlib.Core.Logic.{inl, inr}
 use Rattle.std.specs.List.{slice_get, AllByRecursion}
 use Rattle.std.proofs.lemmas.Bool.{eqb-true}
-use Rattle.std.proofs.lemmas.List.{length-map, length-append}
+use Rattle.std.proofs.lemmas.List.{length-append}
 use Rattle.std.proofs.lemmas.Option.{slice_get-map}
 use Rattle.digraph.specs.Graph.{is_in, are_distinct}
 use Rattle.smv_text.specs.declared.tree.Path.{Path}
@@ -190,10 +190,6 @@ body_kind (actual i b) j e h = refl
 
 abbrev pub kinds_of : List Instance → List ItemKind
 kinds_of t = map {A = PlainFlatItem} (λ m. m.kind) (flat_of t).items
-
-pub kinds_length : (t : List Instance) → length (kinds_of t) ≡ length (origins_of t)
-kinds_length t = length-map {A = PlainFlatItem} (flat_of t).items (λ m. m.kind) ∙ length-map (origins_of t) (flat_item_of t)
-
 kind_at : (t : List Instance) (k : ℕ) (m : Origin) → slice_get (origins_of t) k ≡ Some m → slice_get (kinds_of t) k ≡ Some (kind_of m.content)
 kind_at t k m h =
     slice_get-map own_kind (flat_of t).items k ∙ ap (option_map own_kind) (slice_get-map (flat_item_of t) (origins_of t) k ∙ ap (option_map (flat_item_of t)) h)

@@ -1,5 +1,5 @@
 -- An order of an accepted model's definitions and actuals is one of its flat form's items.
-use Rattle.std.proofs.Common.{◌≡◌, ℕ, zero, suc, ◌+◌, ◌<◌, ◌≤◌, Bool, true, false, not, ◌||◌, ◌==◌, nat_lt, if◌then◌else◌, cond, List, [], ◌∷◌, ◌++◌, map, length, position, Option, Some, None, option_map, refl, sym, ap, ◌∙◌, subst, append_assoc, arith}
+use Rattle.std.proofs.Common.{◌≡◌, ℕ, suc, ◌+◌, ◌<◌, ◌≤◌, Bool, true, false, not, ◌||◌, ◌==◌, nat_lt, if◌then◌else◌, cond, List, [], ◌∷◌, ◌++◌, map, length, position, Option, Some, None, option_map, refl, sym, ap, ◌∙◌, subst, append_assoc, arith}
 use mathlib.Core.Logic.{◌⊎◌, inl, inr}
 use Rattle.std.proofs.Math.Logic.{∥∥₁_elim, ∥∥₁_map}
 use Rattle.std.proofs.Math.Bool.{Bool-set}
@@ -8,7 +8,6 @@ use Rattle.std.proofs.lemmas.Bool.{eqb-true, eq-eqb, lt-ltb, or_cases}
 use Rattle.std.proofs.lemmas.List.{length-map, length_push}
 use Rattle.std.proofs.lemmas.Option.{slice_get-map, slice_get-get_or, slice_get_within}
 use Rattle.digraph.specs.Graph.{is_in, are_distinct}
-use Rattle.smv_text.specs.declared.tree.VarKind.{VarKind}
 use Rattle.smv_text.specs.declared.tree.VarKind.TheVariants as OfVarKind
 use Rattle.smv_meaning.specs.Instances.{Instance, instances_of}
 use Rattle.smv_meaning.specs.Names.{Local, local}
@@ -28,10 +27,10 @@ use Rattle.smv_flat.specs.declared.forms.Role.{Role}
 use Rattle.smv_flat.specs.declared.forms.Role.TheVariants.{Body, Assign, Init, Trans, Invar, Invariant}
 use Rattle.smv_flat.specs.FlatTree.{FlatTree}
 use Rattle.smv_flat.specs.FlatForms.{Form, forms_of, PlainFlat, flat_of}
-use Rattle.smv_flat_laws.specs.FlatOrders.{Bodies, all_read, body_reads, is_settled, ComeFrom, AllOccur, holds_body, RoleHolds, FormHolds, body_numbers, IsItemOrder, number_listed, body_item, item_order, FlatIsOrdered}
+use Rattle.smv_flat_laws.specs.FlatOrders.{Bodies, all_read, body_reads, is_settled, holds_body, RoleHolds, FormHolds, body_numbers, IsItemOrder, number_listed, body_item, item_order, FlatIsOrdered}
 use Rattle.smv_flat_laws.proofs.FlatPlaces.{position_cons, any_right}
 use Rattle.smv_flat_laws.proofs.FlatNames.{IsLocal, item_local, items_differ, keys_differ, placed_at, place_once}
-use Rattle.smv_flat_laws.proofs.FlatOrders.{item_rank, body_rank, IsFalling, RoleRanked, Ranked, among_ranked, all_ranked, kinds_of, kinds_length, bodies_apart}
+use Rattle.smv_flat_laws.proofs.FlatOrders.{item_rank, body_rank, IsFalling, RoleRanked, Ranked, among_ranked, all_ranked, kinds_of, bodies_apart}
 
 -- ---- ranks that rise along a list
 

@@ -21,12 +21,6 @@ pub each_there : {X : Type 0} (P : X → Type 0) (xs : List X) (k : ℕ) (x : X)
 each_there P [] k x a h = cc
 each_there P (y ∷ xs) zero x a h = let e : y ≡ x = cc in subst P e a.0
 each_there P (y ∷ xs) (suc k) x a h = each_there P xs k x a.1 h
-
-pub first_each : {X : Type 0} (P : X → Type 0) (xs : List X) (n : ℕ) → AllByRecursion P xs → AllByRecursion P (take n xs)
-first_each P xs zero a = tt
-first_each P [] (suc n) a = tt
-first_each P (x ∷ xs) (suc n) a = (a.0, first_each P xs n a.1)
-
 -- a loop over a list of steps
 pub step_here : {X : Type 0} (P : X → Type 0) (xs : List X) (k : ℕ) (x : X) → AllByRecursion P xs → k < length xs → x ≡ slice_index_or xs k x → P x
 step_here P xs k x a l e = each_there P xs k x a (slice_get_read xs (length xs) k x refl l e)

@@ -1,11 +1,11 @@
 -- What is answered of a node whose first operands have their types already.
-use Rattle.std.specs.Prelude.{◌≡◌, List, [], Option, None, Result, Ok}
+use Rattle.std.specs.Prelude.{◌≡◌, Option, Result, Ok}
 use Rattle.text_core.specs.declared.end.End.{End}
 use Rattle.text_core.specs.declared.place.Place.{Place}
 use Rattle.smv_text.specs.declared.tree.Path.{Path}
-use Rattle.smv_text.specs.Tree.{Tree, chain, choice, Links, Branches}
+use Rattle.smv_text.specs.Tree.{Tree, chain, Links}
 use Rattle.smv_meaning.specs.Types.{ExprType}
-use Rattle.smv_meaning.specs.Checks.{Position, Named, Typing, typing, single, across, link_checks, link_types, branch_checks, condition_types, value_types, first_failing}
+use Rattle.smv_meaning.specs.Checks.{Position, Named, Typing, typing, across, link_checks, link_types}
 use Rattle.smv_intervals.specs.declared.types.Ty.{Ty}
 use Rattle.smv_types.specs.Outcome.{outcome, Ends}
 use Rattle.smv_types.specs.Steps.{implications_step}
@@ -17,8 +17,3 @@ EndsChain names at p first ls r = (e : Tree) → outcome (typing names (across l
 -- the same of a chain of `->`
 abbrev pub implications_typing : (Path → Named) → Position → Place → Option ExprType → Links → Typing
 implications_typing names at p first ls = implications_step p first (link_checks names at ls) (link_types names at ls)
-
--- a choice whose branches pass their checks, with conditions and values of these types
-abbrev pub EndsChoice : (Path → Named) → Position → Place → List (Option ExprType) → List (Option ExprType) → Tree → Result (Option Ty) End → Type 0
-EndsChoice names at p conditions values last r = (bs : Branches) → first_failing (branch_checks names at bs) ≡ None
-    → conditions ≡ condition_types names (single at) bs → values ≡ value_types names at bs [] → Ends r (typing names at (choice p bs last))
