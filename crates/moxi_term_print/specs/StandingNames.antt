@@ -26,6 +26,7 @@ abbrev mutual
   pub AllNamesAreSpellable : Trees → Type 0
   AllNamesAreSpellable no_trees = Unit {0}
   AllNamesAreSpellable (tree t ts) = NamesAreSpellable t × AllNamesAreSpellable ts
+
 -- each name of the scope that a term or a sort can have in it
 pub record IsSpellableScope (s : ScopeState) : Type 0 where
   pub enumerations : AreSpellable (enumeration_names s)

@@ -190,6 +190,7 @@ body_kind (actual i b) j e h = refl
 
 abbrev pub kinds_of : List Instance → List ItemKind
 kinds_of t = map {A = PlainFlatItem} (λ m. m.kind) (flat_of t).items
+
 kind_at : (t : List Instance) (k : ℕ) (m : Origin) → slice_get (origins_of t) k ≡ Some m → slice_get (kinds_of t) k ≡ Some (kind_of m.content)
 kind_at t k m h =
     slice_get-map own_kind (flat_of t).items k ∙ ap (option_map own_kind) (slice_get-map (flat_item_of t) (origins_of t) k ∙ ap (option_map (flat_item_of t)) h)

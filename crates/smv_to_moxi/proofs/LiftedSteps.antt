@@ -21,6 +21,7 @@ pub each_there : {X : Type 0} (P : X → Type 0) (xs : List X) (k : ℕ) (x : X)
 each_there P [] k x a h = cc
 each_there P (y ∷ xs) zero x a h = let e : y ≡ x = cc in subst P e a.0
 each_there P (y ∷ xs) (suc k) x a h = each_there P xs k x a.1 h
+
 -- a loop over a list of steps
 pub step_here : {X : Type 0} (P : X → Type 0) (xs : List X) (k : ℕ) (x : X) → AllByRecursion P xs → k < length xs → x ≡ slice_index_or xs k x → P x
 step_here P xs k x a l e = each_there P xs k x a (slice_get_read xs (length xs) k x refl l e)

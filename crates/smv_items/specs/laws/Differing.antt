@@ -72,6 +72,7 @@ pub within_joined : {X : Type 0} {xs ys us vs : List X} → Within xs ys → Wit
 within_joined none_left w = w
 within_joined {us = us} {vs = vs} (kept x xs ys v) w = kept x (xs ++ us) (ys ++ vs) (within_joined v w)
 within_joined {us = us} {vs = vs} (passed y xs ys v) w = passed y (xs ++ us) (ys ++ vs) (within_joined v w)
+
 pub all_within : {X : Type 0} (P : X → Type 0) {xs ys : List X} → Within xs ys → AllByRecursion P ys → AllByRecursion P xs
 all_within P none_left h = tt
 all_within P (kept x xs ys v) h = (h.0, all_within P v h.1)
